@@ -1,0 +1,15 @@
+pub mod Resting
+pub mod Ranges
+pub mod Bytes
+pub mod Differences
+pub mod Totals
+pub mod Determinants
+pub mod Sound
+pub mod Sections
+pub mod Body
+pub mod Rows
+pub mod Forms
+pub mod Adjoints
+pub mod FormBody
+pub mod Written
+pub mod ReadBack

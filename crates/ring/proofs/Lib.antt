@@ -1,0 +1,10 @@
+pub mod Residues
+pub mod Words
+pub mod Bits
+pub mod Sums
+pub mod Tables
+pub mod Places
+pub mod Entries
+pub mod Sizes
+pub mod Exact
+pub mod Firsts

@@ -1,0 +1,5 @@
+pub mod Classes
+pub mod Faults
+pub mod Elements
+pub mod Kinds
+pub mod Calls

@@ -1,0 +1,4 @@
+pub mod Keys
+pub mod Powers
+pub mod Matrices
+pub mod Siblings

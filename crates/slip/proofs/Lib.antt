@@ -1,0 +1,5 @@
+pub mod Areas
+pub mod Bytes
+pub mod Trailers
+pub mod Sections
+pub mod Pairs
