@@ -13,7 +13,7 @@ pub enum KeyFault {
     Scratch,
     EvenF,
     EvenG,
-    // typeof.f.G − typeof.g.F is not 1, first at this power.
+    // f·G − g·F is not 1, first at this power.
     Determinant(usize),
 }
 

@@ -1,5 +1,5 @@
 -- The bit kind, by cases.
-use Rattle.std.proofs.Common.{◌≡◌, ℕ, ◌+◌, ◌*◌, Bool, true, false, cond, not, ◌&&◌, pos, neg_ℤ, refl}
+use Rattle.std.proofs.Common.{◌≡◌, ◌+◌, ◌*◌, Bool, true, false, cond, not, ◌&&◌, pos, neg_ℤ, refl}
 use mathlib.Core.Bool.{beq}
 use Rattle.ring.specs.Kinds.{rest, bit_value}
 use Rattle.ring.specs.declared.kind.Bit.{Bit}

@@ -1,5 +1,5 @@
 -- The first failing test of a list that is put together.
-use Rattle.std.proofs.Common.{◌≡◌, ℕ, Bool, true, false, cond, List, [], ◌∷◌, ◌++◌, Some, None, Ok, Err, Option, Result, sym, refl, ap, ◌∙◌, arith}
+use Rattle.std.proofs.Common.{◌≡◌, ℕ, Bool, true, false, cond, List, [], ◌∷◌, ◌++◌, Some, None, Ok, Err, Result, sym, refl, ap, ◌∙◌, arith}
 use Rattle.ring.specs.declared.fault.Fault.{Fault}
 use Rattle.ring.specs.Faults.{Test, first_failing, Answers}
 

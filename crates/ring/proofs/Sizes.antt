@@ -1,5 +1,5 @@
 -- How large the integers of a product can be.
-use Rattle.std.proofs.Common.{◌≡◌, ℕ, suc, ◌+◌, ◌*◌, ◌^◌, ◌<◌, ◌≤◌, List, [], ◌∷◌, map, reverse, length, take, drop, ℤ, pos, negsuc, ◌+ℤ◌, ◌-ℤ◌, ◌*ℤ◌, neg_ℤ, nat_abs, sym, refl, ap, ◌∙◌, add-mul, mul-le-mul, arith, w32, w64, SFits}
+use Rattle.std.proofs.Common.{◌≡◌, ℕ, suc, ◌+◌, ◌*◌, ◌^◌, ◌<◌, ◌≤◌, List, [], ◌∷◌, map, reverse, length, take, drop, ℤ, pos, negsuc, ◌+ℤ◌, ◌*ℤ◌, neg_ℤ, nat_abs, sym, refl, ap, ◌∙◌, add-mul, mul-le-mul, arith, w32, w64, SFits}
 use mathlib.Core.List.{reverse-cons}
 use borrow.Author.Differences.{abs_is, sum_is_lem, neg_is}
 use Rattle.std.specs.List.{AllByRecursion as All}

@@ -1,5 +1,5 @@
 -- The tests of the ring's calls, by the lengths of their lists. Assumes nothing.
-use Rattle.std.specs.Prelude.{ℕ, Bool, true, ◌&&◌, List, [], ◌∷◌, is_some, ◌==◌, nat_lt}
+use Rattle.std.specs.Prelude.{ℕ, Bool, ◌&&◌, is_some, ◌==◌, nat_lt}
 use Rattle.ring.specs.Classes.{with_size}
 use Rattle.ring.specs.Faults.{Test, test, ring_fault}
 use Rattle.ring.specs.declared.fault.RingFault.TheVariants.{Length, Range}

@@ -1,5 +1,5 @@
 -- What a number of a kind means: its residue modulo the kind's modulus. Assumes nothing.
-use Rattle.std.specs.Prelude.{ℕ, ◌^◌, Bool, cond, List, map, ℤ, pos, unsigned_abs}
+use Rattle.std.specs.Prelude.{ℕ, ◌^◌, cond, List, map, ℤ, pos, unsigned_abs}
 use Rattle.std.specs.Int.{int_rem_euclid}
 use Rattle.ring.specs.declared.kind.Bit.{Bit}
 

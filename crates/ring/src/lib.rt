@@ -1,4 +1,6 @@
 // Arithmetic in Z[X]/(X^n + 1), written once for every kind of number.
+#![tactic(auto)]
+
 mod class;
 mod fault;
 mod kind;

@@ -11,7 +11,7 @@ use crate::kind::Coefficient;
 
 // out_i = a_i + b_i.
 pub fn sum<K: Coefficient>(a: &[K], b: &[K], out: &mut [K]) -> Result<(), RingFault>
-    ensures answer { Answers ring_fault (length_test3 (length a.now) (length b.now) (length out.old) ∷ []) (λ _. map residue out.new ≡ map (rest modulus) (sum_of (values residue a.now) (values residue b.now))) result }
+    ensures answer { Answers ring_fault (length_test3 (length a.now) (length b.now) (length out.old) ∷ []) (λ _. map K.residue out.new ≡ map (rest K.modulus) (sum_of (values K.residue a.now) (values K.residue b.now))) result }
     ensures kept { OnErr result (out.new ≡ out.old) }
 {
     if Class::with_size(a.len()).is_none() || b.len() != a.len() || out.len() != a.len() {
@@ -25,7 +25,7 @@ pub fn sum<K: Coefficient>(a: &[K], b: &[K], out: &mut [K]) -> Result<(), RingFa
 
 // out_0 = a_0 and out_i = −a_(n−i).
 pub fn adjoint<K: Coefficient>(a: &[K], out: &mut [K]) -> Result<(), RingFault>
-    ensures answer { Answers ring_fault (length_test2 (length a.now) (length out.old) ∷ []) (λ _. map residue out.new ≡ map (rest modulus) (adjoint_of (values residue a.now))) result }
+    ensures answer { Answers ring_fault (length_test2 (length a.now) (length out.old) ∷ []) (λ _. map K.residue out.new ≡ map (rest K.modulus) (adjoint_of (values K.residue a.now))) result }
     ensures kept { OnErr result (out.new ≡ out.old) }
 {
     if Class::with_size(a.len()).is_none() || out.len() != a.len() {
@@ -40,7 +40,7 @@ pub fn adjoint<K: Coefficient>(a: &[K], out: &mut [K]) -> Result<(), RingFault>
 // Coefficient i of the adjoint.
 fn adjoint_at<K: Coefficient>(a: &[K], i: usize) -> K
     requires { i < length a.now }
-    ensures { residue result ≡ rest modulus (slice_index_or (adjoint_of (values residue a.now)) i (pos 0)) }
+    ensures { K.residue result ≡ rest K.modulus (slice_index_or (adjoint_of (values K.residue a.now)) i (pos 0)) }
 {
     if i == 0 {
         a[0]

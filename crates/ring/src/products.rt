@@ -11,7 +11,7 @@ use crate::kind::Coefficient;
 
 // The sum of a_i · b_j over i + j = m − 1, where b has m numbers.
 fn cross<K: Coefficient>(a: &[K], b: &[K]) -> K
-    ensures { residue result ≡ rest modulus (crossed (values residue a.now) (values residue b.now)) }
+    ensures { K.residue result ≡ rest K.modulus (crossed (values K.residue a.now) (values K.residue b.now)) }
 {
     let mut sum = K::nought();
     for i in 0..a.len().min(b.len()) {
@@ -23,7 +23,7 @@ fn cross<K: Coefficient>(a: &[K], b: &[K]) -> K
 // Coefficient k of a·b: the sum of a_i · b_j over i + j = k, less the sum over i + j = k + n.
 // Of lists of any lengths it answers that sum over the numbers that are there.
 pub fn coefficient<K: Coefficient>(a: &[K], b: &[K], k: usize) -> K
-    ensures { residue result ≡ rest modulus (coefficient_of (values residue a.now) (values residue b.now) k) }
+    ensures { K.residue result ≡ rest K.modulus (coefficient_of (values K.residue a.now) (values K.residue b.now) k) }
 {
     let a_cut = k.saturating_add(1).min(a.len());
     let b_cut = k.saturating_add(1).min(b.len());
@@ -33,7 +33,7 @@ pub fn coefficient<K: Coefficient>(a: &[K], b: &[K], k: usize) -> K
 }
 
 pub fn product<K: Coefficient>(a: &[K], b: &[K], out: &mut [K]) -> Result<(), RingFault>
-    ensures answer { Answers ring_fault (length_test3 (length a.now) (length b.now) (length out.old) ∷ []) (λ _. map residue out.new ≡ map (rest modulus) (product_of (values residue a.now) (values residue b.now))) result }
+    ensures answer { Answers ring_fault (length_test3 (length a.now) (length b.now) (length out.old) ∷ []) (λ _. map K.residue out.new ≡ map (rest K.modulus) (product_of (values K.residue a.now) (values K.residue b.now))) result }
     ensures kept { OnErr result (out.new ≡ out.old) }
 {
     if Class::with_size(a.len()).is_none() || b.len() != a.len() || out.len() != a.len() {

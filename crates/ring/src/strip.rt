@@ -30,7 +30,7 @@ impl<'a, K: Coefficient> Turned<'a, K> {
 
     // Coefficient i of X^k times the element.
     pub fn at(&self, i: usize) -> Result<K, RingFault>
-        ensures { Answers ring_fault (range_test (length self.now.numbers.now) self.now.turn ∷ (range_test (length self.now.numbers.now) i ∷ [])) (λ x. residue x ≡ rest modulus (slice_index_or (turned_of self.now.turn (values residue self.now.numbers.now)) i (pos 0))) result }
+        ensures { Answers ring_fault (range_test (length self.now.numbers.now) self.now.turn ∷ (range_test (length self.now.numbers.now) i ∷ [])) (λ x. K.residue x ≡ rest K.modulus (slice_index_or (turned_of self.now.turn (values K.residue self.now.numbers.now)) i (pos 0))) result }
     {
         let n = self.numbers.len();
         if self.turn >= n || i >= n {

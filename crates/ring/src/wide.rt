@@ -36,7 +36,7 @@ impl Number for i32 {
 
 // Writes the numbers over the front of the words, as far as there is room.
 pub fn widen<S: Number>(numbers: &[S], words: &mut [i64])
-    ensures { words.new ≡ over (map value numbers.now) words.old }
+    ensures { words.new ≡ over (map S.value numbers.now) words.old }
 {
     for i in 0..numbers.len().min(words.len()) {
         words[i] = numbers[i].word();

@@ -63,7 +63,7 @@ fn odd_sum(numbers: &[i64]) -> bool
     sum.rem_euclid(2) == 1
 }
 
-// Coefficient k of typeof.f.G − typeof.g.F.
+// Coefficient k of f·G − g·F.
 fn determinant_at(f: &[i64], g: &[i64], cap_f: &[i64], cap_g: &[i64], k: usize) -> i64
     requires words { FourWords f.now g.now cap_f.now cap_g.now }
     requires within { k < length f.now }
@@ -79,7 +79,7 @@ fn one_at(k: usize) -> i64
     if k == 0 { 1 } else { 0 }
 }
 
-// The power of the first coefficient in which typeof.f.G − typeof.g.F differs from 1.
+// The power of the first coefficient in which f·G − g·F differs from 1.
 fn first_wrong(f: &[i64], g: &[i64], cap_f: &[i64], cap_g: &[i64]) -> Option<usize>
     requires words { FourWords f.now g.now cap_f.now cap_g.now }
     ensures { MatchOption result (prefix_len is_zero (excess (length f.now) (basis f.now g.now cap_f.now cap_g.now)) ≡ length f.now) (λ k. (k ≡ prefix_len is_zero (excess (length f.now) (basis f.now g.now cap_f.now cap_g.now))) × (k < length f.now)) }

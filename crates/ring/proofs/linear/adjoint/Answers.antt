@@ -9,7 +9,7 @@ use Rattle.ring.proofs.linear.adjoint.Goals as goal
 pub loop-i-preserved : goal.loop-i-preserved
 loop-i-preserved g c =
     let kind = g.K.Coefficient in
-    table_more kind.modulus kind.residue (λ i. get_or (adjoint (values kind.residue c.args.a.now)) i (pos 0)) c.loop-i.out c.loop-i.i _ (omega arith) c.loop-i.invariant c.adjoint-at.ensures
+    table_more kind.modulus kind.residue (λ i. get_or (adjoint (values kind.residue c.args.a.now)) i (pos 0)) c.loop-i.out c.loop-i.i _ (omega arith) c.loop-i.invariant c.adjoint_at.ensures
 
 pub returns : goal.returns
 returns g c =

@@ -1,4 +1,4 @@
-use Rattle.std.proofs.Common.{◌≡◌, map, length, get_or, pos, sym, ap, ◌∙◌, arith, rules}
+use Rattle.std.proofs.Common.{◌≡◌, map, length, get_or, pos, ap, ◌∙◌, arith, rules}
 use Rattle.ring.specs.Elements.{sum}
 use Rattle.ring.specs.Kinds.{rest, values}
 use Rattle.ring.proofs.Places.{self_table, length_sum}

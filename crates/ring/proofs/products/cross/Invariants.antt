@@ -1,4 +1,4 @@
-use Rattle.std.proofs.Common.{◌≡◌, ◌≤◌, reverse, length, take}
+use Rattle.std.proofs.Common.{◌≡◌, reverse, take}
 use Rattle.ring.specs.Elements.{dot}
 use Rattle.ring.specs.Kinds.{rest, values}
 use Rattle.ring.proofs.products.cross.Given as goal

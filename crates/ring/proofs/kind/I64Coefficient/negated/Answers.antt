@@ -6,6 +6,6 @@ use Rattle.ring.proofs.kind.I64Coefficient.negated.Goals as goal
 
 pub returns : goal.returns
 returns c =
-    let fits : SFits w64 c.wrapping-neg.result = record { sfits = c.wrapping-neg.type-inv } in
-    let is : c.wrapping-neg.result ≡ int_wrap w64 (neg_ℤ c.args.self) = search (rules, wraps) in
-    rw (to_z-of_z w64 c.wrapping-neg.result fits, is) (word_negated c.args.self)
+    let fits : SFits w64 c.wrapping_neg.result = record { sfits = c.wrapping_neg.type_inv } in
+    let is : c.wrapping_neg.result ≡ int_wrap w64 (neg_ℤ c.args.self) = search (rules, wraps) in
+    rw (to_z-of_z w64 c.wrapping_neg.result fits, is) (word_negated c.args.self)

@@ -1,4 +1,4 @@
-use Rattle.std.proofs.Common.{pos, neg_ℤ, sym, ap, ◌∙◌, arith, rules}
+use Rattle.std.proofs.Common.{pos, neg_ℤ, sym, ap, ◌∙◌, rules}
 use Rattle.ring.specs.Kinds.{rest}
 use Rattle.ring.proofs.Entries.{turned_read_front, turned_read_back}
 use Rattle.ring.proofs.strip.Turned.at.Goals as goal
