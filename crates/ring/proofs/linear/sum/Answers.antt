@@ -10,7 +10,7 @@ pub loop-i-preserved : goal.loop-i-preserved
 loop-i-preserved g c =
     let kind = g.K.Coefficient in
     table_more kind.modulus kind.residue (λ i. get_or (sum (values kind.residue c.args.a.now) (values kind.residue c.args.b.now)) i (pos 0)) c.loop-i.out c.loop-i.i _ (omega arith) c.loop-i.invariant
-    (sum_read kind.modulus kind.residue c.args.a.now c.args.b.now c.loop-i.i c.index-a-i.result c.index-b-i.result _ (omega arith) (omega arith) c.index-a-i.is c.index-b-i.is c.plus.ensures)
+    (sum_read kind.modulus kind.residue c.args.a.now c.args.b.now c.loop-i.i _ _ _ (omega arith) (omega arith) (search rules) (search rules) c.plus.ensures)
 
 pub returns : goal.returns
 returns g c =
