@@ -14,13 +14,13 @@ pub returns-in-Ok : goal.returns-in-Ok
 returns-in-Ok c =
     let done = c.in-Ok.ensures in
     let cut = cut_take c.args.input.now c.min.result file_limit (omega (arith, c.min.ensures)) in
-    IfOk-weaker c.form-line.result (λ t. string_bytes t ≡ form_line c.in-Ok.form.class (gram_of c.in-Ok.form)) (λ t. string_bytes t ≡ measure_line (take file_limit c.args.input.now))
-    (λ t e. e ∙ rw cut at (line_of_form _ _ c.in-Ok.form.class (gram_of c.in-Ok.form) done.0 done.1.class done.1.gram)) c.form-line.ensures
+    IfOk-weaker c.form_line.result (λ t. string_bytes t ≡ form_line c.in-Ok.form.class (gram_of c.in-Ok.form)) (λ t. string_bytes t ≡ measure_line (take file_limit c.args.input.now))
+    (λ t e. e ∙ rw cut at (line_of_form _ _ c.in-Ok.form.class (gram_of c.in-Ok.form) done.0 done.1.class done.1.gram)) c.form_line.ensures
 
 pub returns : goal.returns
 returns c =
     let file = take (c.min.result - 0) c.args.input.now in
     let cut : file ≡ take file_limit c.args.input.now = cut_take c.args.input.now c.min.result file_limit (omega (arith, c.min.ensures)) in
-    let right : first_failing (slip_tests Key file) ≡ None → length c.as-mut-slice.result.now ≡ 4 * size_named file = λ h. omega (arith, c.as-mut-slice.ensures.len, c.in-ok-words.ensures.made, c.size-named.ensures.known h) in
-    IfOk-weaker c.refusal-line.result (λ t. string_bytes t ≡ refusal_line c.into.result) (λ t. string_bytes t ≡ measure_line (take file_limit c.args.input.now))
-    (λ t e. e ∙ ap refusal_line c.into.ensures ∙ line_of_refusal file (length c.as-mut-slice.result.now) (key_fault c.in-Err.fault) right c.in-Err.ensures ∙ ap measure_line cut) c.refusal-line.ensures
+    let right : first_failing (slip_tests Key file) ≡ None → length c.as_mut_slice.result.now ≡ 4 * size_named file = λ h. omega (arith, c.as_mut_slice.ensures.len, c.in-ok_words.ensures.made, c.size_named.ensures.known h) in
+    IfOk-weaker c.refusal_line.result (λ t. string_bytes t ≡ refusal_line c.into.result) (λ t. string_bytes t ≡ measure_line (take file_limit c.args.input.now))
+    (λ t e. e ∙ ap refusal_line c.into.ensures ∙ line_of_refusal file (length c.as_mut_slice.result.now) (key_fault c.in-Err.fault) right c.in-Err.ensures ∙ ap measure_line cut) c.refusal_line.ensures

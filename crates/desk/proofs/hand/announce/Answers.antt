@@ -8,14 +8,14 @@ use Rattle.desk.specs.Hands.{matched, numbered, takes}
 use Rattle.desk.proofs.Hands.{announce_full, announce_refused, announce_taken, kept_own, new_stands, refused_keeps, undone_is}
 use Rattle.desk.proofs.hand.announce.Goals as goal
 
-pub returns-in-err-order : goal.returns-in-err-order
-returns-in-err-order c =
+pub returns-in_err-order : goal.returns-in_err-order
+returns-in_err-order c =
     let state = state_of c.args.session.now in
     let key = c.args.session.now.key.now in
     let hand = c.args.hand.now in
-    let e = c.in-err-order.ensures in
-    let p = err_from_is_err_and c.from-residual.result c.from-residual.ensures.1 in
-    let r = announce_refused key.class (basis_of key) state c.args.hash.now (state_of c.announce.new.self) c.in-err-order.field-0.0 hand e.step in
+    let e = c.in_err-order.ensures in
+    let p = err_from_is_err_and c.from_residual.result c.from_residual.ensures.1 in
+    let r = announce_refused key.class (basis_of key) state c.args.hash.now (state_of c.announce.new.self) c.in_err-order.field-0.0 hand e.step in
     record {
       answer = ap (λ x. numbered x) p.1 ∙ ap (λ x. refused (session_fault x)) p.2 ∙ r.0;
       state = r.1;
@@ -28,23 +28,23 @@ returns-in-err-order c =
 pub undo-requires : goal.undo-requires
 undo-requires c =
     let key = c.args.session.now.key.now in
-    new_stands key.class (basis_of key) (state_of c.args.session.now) c.args.hash.now (state_of c.announce.new.self) c.in-ok-order.order c.in-ok-order.ensures.step
+    new_stands key.class (basis_of key) (state_of c.args.session.now) c.args.hash.now (state_of c.announce.new.self) c.in_ok-order.order c.in_ok-order.ensures.step
 
-pub returns-then-is-some : goal.returns-then-is-some
-returns-then-is-some c =
+pub returns-then-is_some : goal.returns-then-is_some
+returns-then-is_some c =
     let state = state_of c.args.session.now in
     let key = c.args.session.now.key.now in
     let hand = c.args.hand.now in
     let after = state_of c.announce.new.self in
-    let e = c.in-ok-order.ensures in
+    let e = c.in_ok-order.ensures in
     let u = c.undo.ensures in
-    let r = announce_full key.class (basis_of key) state c.args.hash.now after c.in-ok-order.order e.step hand (state_of c.undo.new.session) c.if-is-some.ensures u.state in
+    let r = announce_full key.class (basis_of key) state c.args.hash.now after c.in_ok-order.order e.step hand (state_of c.undo.new.session) c.if-is_some.ensures u.state in
     record {
       answer = r.0;
       state = r.1;
       rest = refl;
       own = kept_own key.class (basis_of key) state hand hand (state_of c.undo.new.session) refl
-          (undone_is key.class (basis_of key) state c.args.hash.now after c.in-ok-order.order e.step (state_of c.undo.new.session) u.state);
+          (undone_is key.class (basis_of key) state c.args.hash.now after c.in_ok-order.order e.step (state_of c.undo.new.session) u.state);
       key = u.key ∙ e.key;
       lender = u.lender ∙ e.lender;
     }
@@ -55,9 +55,9 @@ returns c =
     let key = c.args.session.now.key.now in
     let hand = c.args.hand.now in
     let after = state_of c.announce.new.self in
-    let order = c.in-ok-order.order in
-    let e = c.in-ok-order.ensures in
-    let r = announce_taken key.class (basis_of key) state c.args.hash.now after order e.step hand c.if-is-some.ensures in
+    let order = c.in_ok-order.order in
+    let e = c.in_ok-order.ensures in
+    let r = announce_taken key.class (basis_of key) state c.args.hash.now after order e.step hand c.if-is_some.ensures in
     let number = c.number-number.ensures in
     record {
       answer = ap (λ n. ordered n) number ∙ r.0;

@@ -6,8 +6,8 @@ use Rattle.script.proofs.hex.digits.Goals as goal
 pub loop-b-preserved : goal.loop-b-preserved
 loop-b-preserved c =
     let b = get_or c.args.bytes.now c.loop-b.b-index 0 in
-    let high = pushed (string_bytes c.loop-b.text) (string_bytes c.push.new.self) c.digit-char.result (digit_char (b / 16)) c.in-ok-push.ensures.bytes c.digit-char.ensures.ascii c.digit-char.ensures.value in
-    let low = pushed (string_bytes c.push.new.self) (string_bytes c.push-in-loop-b.new.self) c.digit-char-in-loop-b.result (digit_char (b % 16)) c.in-ok-push-2.ensures.bytes c.digit-char-in-loop-b.ensures.ascii c.digit-char-in-loop-b.ensures.value in
+    let high = pushed (string_bytes c.loop-b.text) (string_bytes c.push.new.self) c.digit_char.result (digit_char (b / 16)) c.in_ok-push.ensures.bytes c.digit_char.ensures.ascii c.digit_char.ensures.value in
+    let low = pushed (string_bytes c.push.new.self) (string_bytes c.push-in-loop-b.new.self) c.digit_char-in-loop-b.result (digit_char (b % 16)) c.in_ok-push-2.ensures.bytes c.digit_char-in-loop-b.ensures.ascii c.digit_char-in-loop-b.ensures.value in
     rw (low, high) (digits_more c.args.bytes.now c.loop-b.b-index (string_bytes c.loop-b.text) c.loop-b.invariant c.loop-b-test.true)
 
 pub returns : goal.returns

@@ -9,13 +9,13 @@ returns-then-eq c =
     let d = slice_eq-Decides Decides-eqb c.args.text.now (45 ∷ []) c.eq.result c.eq.ensures in
     ap Some c.new.ensures.items ∙ sym (bytes_dash c.args.text.now (d.0 c.if-eq.true))
 
-pub returns-then-not-is-hex : goal.returns-then-not-is-hex
-returns-then-not-is-hex c =
+pub returns-then-not-is_hex : goal.returns-then-not-is_hex
+returns-then-not-is_hex c =
     let d = slice_eq-Decides Decides-eqb c.args.text.now (45 ∷ []) c.eq.result c.eq.ensures in
-    sym (bytes_none c.args.text.now (not_from_Decides c.eq.result d c.if-eq.false) (sym c.if-not-is-hex.ensures))
+    sym (bytes_none c.args.text.now (not_from_Decides c.eq.result d c.if-eq.false) (sym c.if-not-is_hex.ensures))
 
 pub returns : goal.returns
 returns c =
     let d = slice_eq-Decides Decides-eqb c.args.text.now (45 ∷ []) c.eq.result c.eq.ensures in
-    ap Some c.in-ok-bytes.ensures
-    ∙ sym (bytes_some c.args.text.now (not_from_Decides c.eq.result d c.if-eq.false) (sym c.if-not-is-hex.ensures))
+    ap Some c.in-ok_bytes.ensures
+    ∙ sym (bytes_some c.args.text.now (not_from_Decides c.eq.result d c.if-eq.false) (sym c.if-not-is_hex.ensures))

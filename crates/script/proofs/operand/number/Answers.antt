@@ -6,8 +6,8 @@ use Rattle.script.proofs.Numerals.{followed_more, followed_all, followed_grows, 
 use Rattle.script.proofs.operand.number.Goals as goal
 use Rattle.script.proofs.operand.number.Goals.{then-c-lt48-via-then-c-lt48, then-c-lt48-via-else-c-lt48+then-c-gt57}
 
-pub returns-then-is-empty : goal.returns-then-is-empty
-returns-then-is-empty c = sym (number_empty c.args.most c.args.text.now (grind (arith, nat_tests)))
+pub returns-then-is_empty : goal.returns-then-is_empty
+returns-then-is_empty c = sym (number_empty c.args.most c.args.text.now (grind (arith, nat_tests)))
 
 pub returns-then-c-lt48 : goal.returns-then-c-lt48
 returns-then-c-lt48 c =

@@ -11,8 +11,8 @@ returns-then-bytes-ne0 c = grind (arith, nat_tests)
 
 pub loop-i-preserved : goal.loop-i-preserved
 loop-i-preserved c =
-    let fits : SFits w16 c.from-be-bytes.result = record { sfits = c.from-be-bytes.type-inv } in
-    rw (c.in-ok-push.ensures.items, to_z-of_z w16 c.from-be-bytes.result fits, c.from-be-bytes.ensures)
+    let fits : SFits w16 c.from_be_bytes.result = record { sfits = c.from_be_bytes.type_inv } in
+    rw (c.in_ok-push.ensures.items, to_z-of_z w16 c.from_be_bytes.result fits, c.from_be_bytes.ensures)
     (twos_more number16 c.args.bytes.now c.loop-i.i (vec_items c.loop-i.numbers) c.loop-i.invariant (omega arith))
 
 pub returns : goal.returns

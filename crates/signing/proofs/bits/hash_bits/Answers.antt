@@ -16,7 +16,7 @@ loop-i-preserved c =
     let size = length-map-range_with_len (hash_bit hash) c.args.from n in
     let long = length-map numbers (rest 2) in
     read_more bit_value c.loop-i.bits (map (rest 2) numbers) c.loop-i.i _ 0 (omega arith) (omega (arith, long, size))
-    (hash_bit_is hash _ c.hash-bit.result c.hash-bit.ensures
+    (hash_bit_is hash _ c.hash_bit.result c.hash_bit.ensures
     ∙ ap (rest 2) (sym (get_or-map-range_with_len (hash_bit hash) c.args.from n c.loop-i.i _ (pos 0) (omega arith) (omega arith)))
     ∙ sym (get_or-map (rest 2) numbers c.loop-i.i (pos 0) 0 (omega (arith, size)))) c.loop-i.invariant
 

@@ -5,5 +5,5 @@ use Rattle.signing.proofs.bits.parity.Goals as goal
 
 pub returns : goal.returns
 returns g c =
-    let wide : SFits w64 c.word.result = record { sfits = c.word.type-inv } in
-    parity_is c.rem-euclid.result _ _ c.rem-euclid.ensures.value (to_z-of_z w64 c.word.result wide ∙ c.word.ensures)
+    let wide : SFits w64 c.word.result = record { sfits = c.word.type_inv } in
+    parity_is c.rem_euclid.result _ _ c.rem_euclid.ensures.value (to_z-of_z w64 c.word.result wide ∙ c.word.ensures)

@@ -13,18 +13,18 @@ pub returns-then-v-ne0 : goal.returns-then-v-ne0
 returns-then-v-ne0 c =
     let w = apart c.args.a.now c.args.b.now c.args.x.now c.args.y.now in
     let long = length_apart c.args.a.now c.args.b.now c.args.x.now c.args.y.now c.requires.same in
-    let v = c.apart-at-v.result in
-    let fits : SFits w64 v = record { sfits = c.apart-at-v.type-inv } in
-    to_z-of_z w64 v fits ∙ c.apart-at-v.ensures
-    ∙ leader_found w c.loop-k.k (omega (arith, long)) (sym (ap is_zero c.apart-at-v.ensures) ∙ other_word v c.if-v-ne0.true) c.loop-k.invariant
+    let v = c.apart_at-v.result in
+    let fits : SFits w64 v = record { sfits = c.apart_at-v.type_inv } in
+    to_z-of_z w64 v fits ∙ c.apart_at-v.ensures
+    ∙ leader_found w c.loop-k.k (omega (arith, long)) (sym (ap is_zero c.apart_at-v.ensures) ∙ other_word v c.if-v-ne0.true) c.loop-k.invariant
 
 pub loop-k-preserved : goal.loop-k-preserved
 loop-k-preserved c =
     let w = apart c.args.a.now c.args.b.now c.args.x.now c.args.y.now in
     let long = length_apart c.args.a.now c.args.b.now c.args.x.now c.args.y.now c.requires.same in
-    let v = c.apart-at-v.result in
-    let fits : SFits w64 v = record { sfits = c.apart-at-v.type-inv } in
-    leader_more w c.loop-k.k (omega (arith, long)) (sym (ap is_zero c.apart-at-v.ensures) ∙ zero_word v fits c.if-v-ne0.false) c.loop-k.invariant
+    let v = c.apart_at-v.result in
+    let fits : SFits w64 v = record { sfits = c.apart_at-v.type_inv } in
+    leader_more w c.loop-k.k (omega (arith, long)) (sym (ap is_zero c.apart_at-v.ensures) ∙ zero_word v fits c.if-v-ne0.false) c.loop-k.invariant
 
 pub returns : goal.returns
 returns c =

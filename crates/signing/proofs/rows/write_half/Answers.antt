@@ -6,11 +6,11 @@ use Rattle.signing.proofs.Copies.{copied_more, copied_all}
 use Rattle.signing.proofs.Halves.{length_half, half_at}
 use Rattle.signing.proofs.rows.write_half.Goals as goal
 
-pub half-less-requires : goal.half-less-requires
-half-less-requires c =
-    let v = c.apart-at-v.result in
-    let fits : SFits w64 v = record { sfits = c.apart-at-v.type-inv } in
-    apart_small c.args.a.now c.args.b.now c.args.x.now c.args.y.now c.requires.row c.loop-k.k _ (omega arith) (to_z-of_z w64 v fits ∙ c.apart-at-v.ensures)
+pub half_less-requires : goal.half_less-requires
+half_less-requires c =
+    let v = c.apart_at-v.result in
+    let fits : SFits w64 v = record { sfits = c.apart_at-v.type_inv } in
+    apart_small c.args.a.now c.args.b.now c.args.x.now c.args.y.now c.requires.row c.loop-k.k _ (omega arith) (to_z-of_z w64 v fits ∙ c.apart_at-v.ensures)
 
 pub loop-k-preserved : goal.loop-k-preserved
 loop-k-preserved c =
@@ -18,11 +18,11 @@ loop-k-preserved c =
     let hash = c.args.hash.now in
     let long = length_apart c.args.a.now c.args.b.now c.args.x.now c.args.y.now c.requires.row.same in
     let size = length_half hash c.args.from c.args.changed w in
-    let fits : SFits w64 c.apart-at-v.result = record { sfits = c.apart-at-v.type-inv } in
-    let narrow : SFits w32 c.half_less.result = record { sfits = c.half_less.type-inv } in
+    let fits : SFits w64 c.apart_at-v.result = record { sfits = c.apart_at-v.type_inv } in
+    let narrow : SFits w32 c.half_less.result = record { sfits = c.half_less.type_inv } in
     copied_more c.loop-k.area (half_from hash c.args.from c.args.changed w) c.loop-k.k _ (pos 0) (omega arith) (omega (arith, long, size))
     (to_z-of_z w32 c.half_less.result narrow ∙ c.half_less.ensures
-    ∙ half_at hash c.args.from c.args.changed w c.loop-k.k c.hash-bit.result _ (omega (arith, long)) c.hash-bit.ensures (to_z-of_z w64 c.apart-at-v.result fits ∙ c.apart-at-v.ensures)) c.loop-k.invariant
+    ∙ half_at hash c.args.from c.args.changed w c.loop-k.k c.hash_bit.result _ (omega (arith, long)) c.hash_bit.ensures (to_z-of_z w64 c.apart_at-v.result fits ∙ c.apart_at-v.ensures)) c.loop-k.invariant
 
 pub returns : goal.returns
 returns c =

@@ -13,5 +13,5 @@ returns c =
     let n = size_of c.args.key.now.class in
     let xs = c.args.sample.now in
     c.agree.ensures
-    ∙ ap (bytes_eq (map (rest 2) xs)) c.target-bits.ensures
+    ∙ ap (bytes_eq (map (rest 2) xs)) c.target_bits.ensures
     ∙ ap (λ s. bytes_eq s (target_of (basis_of c.args.key.now) (hash_pair n c.args.hash.now))) (parities_are n xs)

@@ -10,16 +10,16 @@ pub overflow-add-sum : goal.overflow-add-sum
 overflow-add-sum c =
     let xs = c.args.sample.now in
     let fits : SFits w16 (get_or xs c.loop-i.i (pos 0)) = search rules in
-    let size_is : c.from-size.result ≡ nat_abs (get_or xs c.loop-i.i (pos 0)) = c.from-size.ensures ∙ c.unsigned-abs.ensures.value ∙ ap nat_abs (to_z-of_z w16 (get_or xs c.loop-i.i (pos 0)) fits) in
-    let small : c.from-size.result ≤ 2 ^ 15 = omega (arith, c.from-size.ensures, c.unsigned-abs.ensures.bound) in
+    let size_is : c.from-size.result ≡ nat_abs (get_or xs c.loop-i.i (pos 0)) = c.from-size.ensures ∙ c.unsigned_abs.ensures.value ∙ ap nat_abs (to_z-of_z w16 (get_or xs c.loop-i.i (pos 0)) fits) in
+    let small : c.from-size.result ≤ 2 ^ 15 = omega (arith, c.from-size.ensures, c.unsigned_abs.ensures.bound) in
     record { fits = sum_fits xs c.loop-i.i c.loop-i.sum c.from-size.result c.loop-i-test.true c.requires size_is small c.loop-i.invariant.0 c.loop-i.invariant.1 }
 
 pub loop-i-preserved : goal.loop-i-preserved
 loop-i-preserved c =
     let xs = c.args.sample.now in
     let fits : SFits w16 (get_or xs c.loop-i.i (pos 0)) = search rules in
-    let size_is : c.from-size.result ≡ nat_abs (get_or xs c.loop-i.i (pos 0)) = c.from-size.ensures ∙ c.unsigned-abs.ensures.value ∙ ap nat_abs (to_z-of_z w16 (get_or xs c.loop-i.i (pos 0)) fits) in
-    let small : c.from-size.result ≤ 2 ^ 15 = omega (arith, c.from-size.ensures, c.unsigned-abs.ensures.bound) in (
+    let size_is : c.from-size.result ≡ nat_abs (get_or xs c.loop-i.i (pos 0)) = c.from-size.ensures ∙ c.unsigned_abs.ensures.value ∙ ap nat_abs (to_z-of_z w16 (get_or xs c.loop-i.i (pos 0)) fits) in
+    let small : c.from-size.result ≤ 2 ^ 15 = omega (arith, c.from-size.ensures, c.unsigned_abs.ensures.bound) in (
       sum_more xs c.loop-i.i c.loop-i.sum c.from-size.result c.loop-i-test.true c.requires size_is small c.loop-i.invariant.0 c.loop-i.invariant.1,
       sum_below xs c.loop-i.i c.loop-i.sum c.from-size.result c.loop-i-test.true c.requires size_is small c.loop-i.invariant.0 c.loop-i.invariant.1,
     )

@@ -16,9 +16,9 @@ use Rattle.signing.proofs.sign.sign_pair.Goals as goal
 pub returns-then-first-eq0 : goal.returns-then-first-eq0
 returns-then-first-eq0 c =
     let b = basis_of c.args.key.now in
-    let r = c.row-leader-first.result in
-    let fits : SFits w64 r = record { sfits = c.row-leader-first.type-inv } in
-    let lead = leader_is b c.args.x0.now c.args.x1.now _ _ c.f-f.ensures.value c.g-g.ensures.value r c.row-leader-first.ensures in
+    let r = c.row_leader-first.result in
+    let fits : SFits w64 r = record { sfits = c.row_leader-first.type_inv } in
+    let lead = leader_is b c.args.x0.now c.args.x1.now _ _ c.f-f.ensures.value c.g-g.ensures.value r c.row_leader-first.ensures in
     record { answer = zero_fails b (pair c.args.x0.now c.args.x1.now) (sym (ap is_zero lead) ∙ zero_word r fits c.if-first-eq0.true); kept = refl }
 
 pub returns : goal.returns
@@ -29,27 +29,27 @@ returns c =
     let n = size_of key.class in
     let x0 = c.args.x0.now in
     let x1 = c.args.x1.now in
-    let r = c.row-leader-first.result in
-    let fits : SFits w64 r = record { sfits = c.row-leader-first.type-inv } in
-    let lead = leader_is b x0 x1 _ _ c.f-f.ensures.value c.g-g.ensures.value r c.row-leader-first.ensures in
+    let r = c.row_leader-first.result in
+    let fits : SFits w64 r = record { sfits = c.row_leader-first.type_inv } in
+    let lead = leader_is b x0 x1 _ _ c.f-f.ensures.value c.g-g.ensures.value r c.row_leader-first.ensures in
     let changed = lt_z (to_z w64 (of_z w64 r)) (pos 0) in
-    let rule : changed ≡ changes (source_of b (pair x0 x1)) = ap (λ z. lt_z z (pos 0)) (to_z-of_z w64 r fits) ∙ changed_is b x0 x1 _ _ c.f-f.ensures.value c.g-g.ensures.value r c.row-leader-first.ensures in
+    let rule : changed ≡ changes (source_of b (pair x0 x1)) = ap (λ z. lt_z z (pos 0)) (to_z-of_z w64 r fits) ∙ changed_is b x0 x1 _ _ c.f-f.ensures.value c.g-g.ensures.value r c.row_leader-first.ensures in
     let size : c.size-n.result ≡ n = c.size-n.ensures ∙ ap size_of c.class.ensures.class in
     let f-long : length b.f ≡ n = ap length (sym c.f-f.ensures.value) ∙ c.f-f.ensures.len in
     let g_long : length b.g ≡ n = ap length (sym c.g-g.ensures.value) ∙ c.g-g.ensures.len in
-    let F_long : length b.F ≡ n = ap length (sym c.cap-f-cap-f.ensures.value) ∙ c.cap-f-cap-f.ensures.len in
-    let G_long : length b.G ≡ n = ap length (sym c.cap-g-cap-g.ensures.value) ∙ c.cap-g-cap-g.ensures.len in
-    let t = c.row-half.new.area in
-    let u = c.row-half-2.new.area in
+    let F_long : length b.F ≡ n = ap length (sym c.cap_f-cap_f.ensures.value) ∙ c.cap_f-cap_f.ensures.len in
+    let G_long : length b.G ≡ n = ap length (sym c.cap_g-cap_g.ensures.value) ∙ c.cap_g-cap_g.ensures.len in
+    let t = c.row_half.new.area in
+    let u = c.row_half-2.new.area in
     let within : c.size-n.result ≤ length c.args.area.now = omega (arith, size, c.requires.area_long) in
-    let first : t ≡ half_from hash 0 changed (apart b.G b.F x0 x1) = c.row-half.ensures ∙ half_same hash 0 0 changed _ _ b.G b.F x0 x1 refl c.cap-g-cap-g.ensures.value c.cap-f-cap-f.ensures.value in
-    let second : u ≡ half_from hash n changed (apart b.f b.g x1 x0) = c.row-half-2.ensures ∙ half_same hash _ n changed _ _ b.f b.g x1 x0 size c.f-f.ensures.value c.g-g.ensures.value in
+    let first : t ≡ half_from hash 0 changed (apart b.G b.F x0 x1) = c.row_half.ensures ∙ half_same hash 0 0 changed _ _ b.G b.F x0 x1 refl c.cap_g-cap_g.ensures.value c.cap_f-cap_f.ensures.value in
+    let second : u ≡ half_from hash n changed (apart b.f b.g x1 x0) = c.row_half-2.ensures ∙ half_same hash _ n changed _ _ b.f b.g x1 x0 size c.f-f.ensures.value c.g-g.ensures.value in
     record {
       answer = (
         zero_passes b (pair x0 x1) (sym (ap is_zero lead) ∙ other_word r c.if-first-eq0.false),
         record {
           changed_is = rule;
-          area_is = signature_is n hash b x0 x1 changed _ (length_apart b.G b.F x0 x1 (F_long ∙ sym G_long) ∙ G_long) (length_apart b.f b.g x1 x0 (g_long ∙ sym f-long) ∙ f-long) rule (halves c.args.area.now t c.size-n.result within c.row-half.auto.area u ∙ ap (λ s. s ++ u) first ∙ ap (λ s. half_from hash 0 changed (apart b.G b.F x0 x1) ++ s) second);
+          area_is = signature_is n hash b x0 x1 changed _ (length_apart b.G b.F x0 x1 (F_long ∙ sym G_long) ∙ G_long) (length_apart b.f b.g x1 x0 (g_long ∙ sym f-long) ∙ f-long) rule (halves c.args.area.now t c.size-n.result within c.row_half.auto.area u ∙ ap (λ s. s ++ u) first ∙ ap (λ s. half_from hash 0 changed (apart b.G b.F x0 x1) ++ s) second);
         },
       );
       kept = tt;

@@ -15,11 +15,11 @@ returns c =
     let sample = c.args.sample.now in
     let size : c.size-n.result ≡ n = c.size-n.ensures ∙ ap size_of c.class-class.ensures.class in
     let twice = ap (λ k. 2 * k) size in
-    let hash_long : length hash ≡ hash_length_of key.class = c.if-hash-hash-length.false ∙ c.hash_length.ensures ∙ ap hash_length_of c.class-class.ensures.class in
+    let hash_long : length hash ≡ hash_length_of key.class = c.if-hash-hash_length.false ∙ c.hash_length.ensures ∙ ap hash_length_of c.class-class.ensures.class in
     record {
       answer = sizes_pass key.class (length hash) (length sample) (length c.args.area.now) (length c.args.scratch.now)
-          (sample_tests key.class (basis_of key) (hash_pair n hash) (pair_from n sample)) _ c.sign-sized.result
-          hash_long (c.if-sample-n.false ∙ twice) (c.if-area-n.false ∙ twice) (c.if-guard-n.false ∙ ap (λ k. 4 * k) size) c.sign-sized.ensures.answer;
-      kept = c.sign-sized.ensures.kept;
+          (sample_tests key.class (basis_of key) (hash_pair n hash) (pair_from n sample)) _ c.sign_sized.result
+          hash_long (c.if-sample-n.false ∙ twice) (c.if-area-n.false ∙ twice) (c.if-guard-n.false ∙ ap (λ k. 4 * k) size) c.sign_sized.ensures.answer;
+      kept = c.sign_sized.ensures.kept;
       wiped = search rules;
     }

@@ -10,21 +10,21 @@ use Rattle.signing.proofs.Squares.{parts_small}
 use Rattle.signing.proofs.Words.{front_words, back_words}
 use Rattle.signing.proofs.sign.sign_short.Goals as goal
 
-pub sign-pair-requires : goal.sign-pair-requires
-sign-pair-requires c =
+pub sign_pair-requires : goal.sign_pair-requires
+sign_pair-requires c =
     let class = c.args.key.now.class in
     let sample = c.args.sample.now in
     let n = size_of class in
     let size : c.size-n.result ≡ n = c.size-n.ensures ∙ ap size_of c.class.ensures.class in
     let long : length sample ≡ n + n = omega (arith, c.requires.sized.sample_long) in
-    let x0-is = front_words sample c.widen.new.words _ c.size-n.result n size long c.split-at-mut-x0.ensures.front-len c.widen.ensures in
-    let x1-is = back_words sample c.widen-2.new.words _ c.size-n.result n size long c.split-at-mut-x1.ensures.front-len c.widen-2.ensures in
+    let x0-is = front_words sample c.widen.new.words _ c.size-n.result n size long c.split_at_mut-x0.ensures.front-len c.widen.ensures in
+    let x1-is = back_words sample c.widen-2.new.words _ c.size-n.result n size long c.split_at_mut-x1.ensures.front-len c.widen-2.ensures in
     let small = parts_small class n sample c.requires.bounded in
     record {
       x0_long = ap length x0-is ∙ length-take-le n sample (omega arith);
       x1_long = ap length x1-is ∙ length-drop n sample ∙ omega arith;
       area_long = c.requires.sized.area_long;
-      words_long = omega (arith, c.split-at-mut-x1.ensures.back_len, c.split-at-mut-x0.ensures.back_len, c.requires.sized.words_long, size);
+      words_long = omega (arith, c.split_at_mut-x1.ensures.back_len, c.split_at_mut-x0.ensures.back_len, c.requires.sized.words_long, size);
       x0_small = ap (all_within sample_limit) x0-is ∙ small.0;
       x1_small = ap (all_within sample_limit) x1-is ∙ small.1;
     }
@@ -36,9 +36,9 @@ returns c =
     let n = size_of key.class in
     let size : c.size-n.result ≡ n = c.size-n.ensures ∙ ap size_of c.class.ensures.class in
     let long : length sample ≡ n + n = omega (arith, c.requires.sized.sample_long) in
-    let x0-is = front_words sample c.widen.new.words _ c.size-n.result n size long c.split-at-mut-x0.ensures.front-len c.widen.ensures in
-    let x1-is = back_words sample c.widen-2.new.words _ c.size-n.result n size long c.split-at-mut-x1.ensures.front-len c.widen-2.ensures in
+    let x0-is = front_words sample c.widen.new.words _ c.size-n.result n size long c.split_at_mut-x0.ensures.front-len c.widen.ensures in
+    let x1-is = back_words sample c.widen-2.new.words _ c.size-n.result n size long c.split_at_mut-x1.ensures.front-len c.widen-2.ensures in
     record {
-      answer = pair_answer (basis_of key) (hash_pair n c.args.hash.now) n sample c.widen.new.words c.widen-2.new.words c.sign-pair.new.area c.sign-pair.result x0-is x1-is c.sign-pair.ensures.answer;
-      kept = c.sign-pair.ensures.kept;
+      answer = pair_answer (basis_of key) (hash_pair n c.args.hash.now) n sample c.widen.new.words c.widen-2.new.words c.sign_pair.new.area c.sign_pair.result x0-is x1-is c.sign_pair.ensures.answer;
+      kept = c.sign_pair.ensures.kept;
     }

@@ -17,8 +17,8 @@ paired-requires c =
     c.requires.p_long c.requires.q_long c.widen.ensures c.widen-2.ensures form.small_q00 form.small_q01 in
     rw c.requires.first.long (record { row = row_words n q.q00 q.q01 p r upper; first = c.requires.first; second = c.requires.second; half = c.requires.first })
 
-pub returns-in-err-first : goal.returns-in-err-first
-returns-in-err-first c =
+pub returns-in_err-first : goal.returns-in_err-first
+returns-in_err-first c =
     let form = c.args.form.now in
     let n = size_of form.class in
     let q = gram_of form in
@@ -28,8 +28,8 @@ returns-in-err-first c =
     c.requires.p_long c.requires.q_long c.widen.ensures c.widen-2.ensures form.small_q00 form.small_q01 in
     let v0 = c.args.v0.now in
     let v1 = c.args.v1.now in
-    rw c.from-residual.ensures
-    (first_large q v0 v1 (row_image (shown p) r v0 v1) (row_image (adjoint q.q01) q.q11 v0 v1) (row_is n q.q00 q.q01 p r upper v0 v1) refl c.in-err-first.ensures)
+    rw c.from_residual.ensures
+    (first_large q v0 v1 (row_image (shown p) r v0 v1) (row_image (adjoint q.q01) q.q11 v0 v1) (row_is n q.q00 q.q01 p r upper v0 v1) refl c.in_err-first.ensures)
 
 pub paired-requires-2 : goal.paired-requires-2
 paired-requires-2 c =
@@ -45,8 +45,8 @@ paired-requires-2 c =
     let lower = second_row form.class q p r star t c.q11.result.now c.adjoint.result upper c.adjoint.ensures.answer c.q11.ensures.value c.q11.ensures.len c.widen-3.ensures form.small_q11 in
     rw c.requires.first.long (record { row = row_words n (adjoint q.q01) q.q11 star t lower; first = c.requires.first; second = c.requires.second; half = c.requires.second })
 
-pub returns-in-err-second : goal.returns-in-err-second
-returns-in-err-second c =
+pub returns-in_err-second : goal.returns-in_err-second
+returns-in_err-second c =
     let form = c.args.form.now in
     let n = size_of form.class in
     let q = gram_of form in
@@ -61,7 +61,7 @@ returns-in-err-second c =
     let v1 = c.args.v1.now in
     let u0-is = row_is n q.q00 q.q01 p r upper v0 v1 in
     let u1-is = row_is n (adjoint q.q01) q.q11 star t lower v0 v1 in
-    rw c.from-residual-in-err-second.ensures (second_large q v0 v1 (row_image (shown p) r v0 v1) (row_image (shown star) t v0 v1) u0-is u1-is c.in-err-second.ensures)
+    rw c.from_residual-in_err-second.ensures (second_large q v0 v1 (row_image (shown p) r v0 v1) (row_image (shown star) t v0 v1) u0-is u1-is c.in_err-second.ensures)
 
 pub overflow-add-result : goal.overflow-add-result
 overflow-add-result c =
@@ -79,8 +79,8 @@ overflow-add-result c =
     let v1 = c.args.v1.now in
     let u0-is = row_is n q.q00 q.q01 p r upper v0 v1 in
     let u1-is = row_is n (adjoint q.q01) q.q11 star t lower v0 v1 in
-    total_fits q v0 v1 (row_image (shown p) r v0 v1) (row_image (shown star) t v0 v1) u0-is u1-is n c.in-ok-first.first c.in-ok-second.second c.requires.first c.requires.second
-    c.in-ok-first.ensures.0 c.in-ok-second.ensures.0 c.in-ok-first.ensures.1 c.in-ok-second.ensures.1
+    total_fits q v0 v1 (row_image (shown p) r v0 v1) (row_image (shown star) t v0 v1) u0-is u1-is n c.in_ok-first.first c.in_ok-second.second c.requires.first c.requires.second
+    c.in_ok-first.ensures.0 c.in_ok-second.ensures.0 c.in_ok-first.ensures.1 c.in_ok-second.ensures.1
 
 pub returns : goal.returns
 returns c =
@@ -98,7 +98,7 @@ returns c =
     let v1 = c.args.v1.now in
     let u0-is = row_is n q.q00 q.q01 p r upper v0 v1 in
     let u1-is = row_is n (adjoint q.q01) q.q11 star t lower v0 v1 in (
-      both_kept q v0 v1 (row_image (shown p) r v0 v1) (row_image (shown star) t v0 v1) u0-is u1-is c.in-ok-first.ensures.0 c.in-ok-second.ensures.0,
-      total_is q v0 v1 (row_image (shown p) r v0 v1) (row_image (shown star) t v0 v1) u0-is u1-is n c.in-ok-first.first c.in-ok-second.second c.requires.first c.requires.second
-          c.in-ok-first.ensures.0 c.in-ok-second.ensures.0 c.in-ok-first.ensures.1 c.in-ok-second.ensures.1,
+      both_kept q v0 v1 (row_image (shown p) r v0 v1) (row_image (shown star) t v0 v1) u0-is u1-is c.in_ok-first.ensures.0 c.in_ok-second.ensures.0,
+      total_is q v0 v1 (row_image (shown p) r v0 v1) (row_image (shown star) t v0 v1) u0-is u1-is n c.in_ok-first.first c.in_ok-second.second c.requires.first c.requires.second
+          c.in_ok-first.ensures.0 c.in_ok-second.ensures.0 c.in_ok-first.ensures.1 c.in_ok-second.ensures.1,
     )

@@ -10,11 +10,11 @@ pub loop-k-init : goal.loop-k-init
 unfolding dot
 loop-k-init c = ((omega arith, refl), refl, omega arith)
 
-pub returns-then-not-in-limit : goal.returns-then-not-in-limit
-returns-then-not-in-limit c =
+pub returns-then-not-in_limit : goal.returns-then-not-in_limit
+returns-then-not-in_limit c =
     let u = row_image (shown c.args.p.now) c.args.q.now c.args.v0.now c.args.v1.now in
     let long = length_image (length c.args.v0.now) (shown c.args.p.now) c.args.q.now c.args.v0.now c.args.v1.now c.requires.row in
-    let large = limit_read u c.loop-k.k c.image-at-u.result false (record { sfits = c.image-at-u.type-inv }) c.image-at-u.ensures c.if-not-in-limit.ensures in
+    let large = limit_read u c.loop-k.k c.image_at-u.result false (record { sfits = c.image_at-u.type_inv }) c.image_at-u.ensures c.if-not-in_limit.ensures in
     (passed_not image_limit u c.loop-k.k (omega (arith, c.requires.half.long)) large c.loop-k.invariant.0).0
 
 pub overflow-mul-sum : goal.overflow-mul-sum
@@ -22,16 +22,16 @@ overflow-mul-sum c =
     let n = length c.args.v0.now in
     let u = row_image (shown c.args.p.now) c.args.q.now c.args.v0.now c.args.v1.now in
     let long = length_image n (shown c.args.p.now) c.args.q.now c.args.v0.now c.args.v1.now c.requires.row in
-    let small = limit_read u c.loop-k.k c.image-at-u.result true (record { sfits = c.image-at-u.type-inv }) c.image-at-u.ensures c.if-not-in-limit.ensures in
-    term_fits n c.args.half.now u c.loop-k.k c.image-at-u.result c.requires.half long (omega (arith, c.requires.half.long)) (record { sfits = c.image-at-u.type-inv }) c.image-at-u.ensures small
+    let small = limit_read u c.loop-k.k c.image_at-u.result true (record { sfits = c.image_at-u.type_inv }) c.image_at-u.ensures c.if-not-in_limit.ensures in
+    term_fits n c.args.half.now u c.loop-k.k c.image_at-u.result c.requires.half long (omega (arith, c.requires.half.long)) (record { sfits = c.image_at-u.type_inv }) c.image_at-u.ensures small
 
 pub overflow-add-sum : goal.overflow-add-sum
 overflow-add-sum c =
     let n = length c.args.v0.now in
     let u = row_image (shown c.args.p.now) c.args.q.now c.args.v0.now c.args.v1.now in
     let long = length_image n (shown c.args.p.now) c.args.q.now c.args.v0.now c.args.v1.now c.requires.row in
-    let small = limit_read u c.loop-k.k c.image-at-u.result true (record { sfits = c.image-at-u.type-inv }) c.image-at-u.ensures c.if-not-in-limit.ensures in
-    sum_fits n c.args.half.now u c.loop-k.k c.image-at-u.result c.requires.half long (omega (arith, c.requires.half.long)) (record { sfits = c.image-at-u.type-inv }) c.image-at-u.ensures small _ c.loop-k.invariant.1 c.loop-k.invariant.2
+    let small = limit_read u c.loop-k.k c.image_at-u.result true (record { sfits = c.image_at-u.type_inv }) c.image_at-u.ensures c.if-not-in_limit.ensures in
+    sum_fits n c.args.half.now u c.loop-k.k c.image_at-u.result c.requires.half long (omega (arith, c.requires.half.long)) (record { sfits = c.image_at-u.type_inv }) c.image_at-u.ensures small _ c.loop-k.invariant.1 c.loop-k.invariant.2
 
 pub loop-k-preserved : goal.loop-k-preserved
 loop-k-preserved c =
@@ -39,10 +39,10 @@ loop-k-preserved c =
     let u = row_image (shown c.args.p.now) c.args.q.now c.args.v0.now c.args.v1.now in
     let long = length_image n (shown c.args.p.now) c.args.q.now c.args.v0.now c.args.v1.now c.requires.row in
     let below : c.loop-k.k < n = omega (arith, c.requires.half.long) in
-    let small = limit_read u c.loop-k.k c.image-at-u.result true (record { sfits = c.image-at-u.type-inv }) c.image-at-u.ensures c.if-not-in-limit.ensures in (
+    let small = limit_read u c.loop-k.k c.image_at-u.result true (record { sfits = c.image_at-u.type_inv }) c.image_at-u.ensures c.if-not-in_limit.ensures in (
       passed_more image_limit u c.loop-k.k (omega arith) small c.loop-k.invariant.0,
-      sum_step n c.args.half.now u c.loop-k.k c.image-at-u.result c.requires.half long below (record { sfits = c.image-at-u.type-inv }) c.image-at-u.ensures small _ c.loop-k.invariant.1 c.loop-k.invariant.2,
-      sum_grows n c.args.half.now u c.loop-k.k c.image-at-u.result c.requires.half long below (record { sfits = c.image-at-u.type-inv }) c.image-at-u.ensures small _ c.loop-k.invariant.1 c.loop-k.invariant.2,
+      sum_step n c.args.half.now u c.loop-k.k c.image_at-u.result c.requires.half long below (record { sfits = c.image_at-u.type_inv }) c.image_at-u.ensures small _ c.loop-k.invariant.1 c.loop-k.invariant.2,
+      sum_grows n c.args.half.now u c.loop-k.k c.image_at-u.result c.requires.half long below (record { sfits = c.image_at-u.type_inv }) c.image_at-u.ensures small _ c.loop-k.invariant.1 c.loop-k.invariant.2,
     )
 
 pub returns : goal.returns

@@ -10,7 +10,7 @@ loop-i-preserved c =
     let i = c.loop-i.i in
     let long = length_half c.args.start c.args.hash.now s in
     let fits : SFits w32 (get_or s i (pos 0)) = search rules in
-    let stored = word_is c.args.hash.now (c.args.start + i) c.hash-bit.result c.from.result c.from-in-loop-i.result (get_or s i (pos 0)) c.hash-bit.ensures c.from.ensures fits c.from-in-loop-i.ensures in
+    let stored = word_is c.args.hash.now (c.args.start + i) c.hash_bit.result c.from.result c.from-in-loop-i.result (get_or s i (pos 0)) c.hash_bit.ensures c.from.ensures fits c.from-in-loop-i.ensures in
     copied_more c.loop-i.words (half_point c.args.start c.args.hash.now s) i _ (omega arith) (omega arith)
     (stored ∙ sym (half_at c.args.start c.args.hash.now s i c.loop-i-test.true)) c.loop-i.invariant
 

@@ -10,13 +10,13 @@ use Rattle.form.specs.Refusals.{form_fault}
 use Rattle.form.specs.declared.fault.FormFault.TheVariants.{Scratch}
 use Rattle.form.proofs.form.Form.load.Goals as goal
 
-pub returns-in-err-slip : goal.returns-in-err-slip
+pub returns-in_err-slip : goal.returns-in_err-slip
 unfolding form_tests
-returns-in-err-slip c =
+returns-in_err-slip c =
     let file = c.args.file.now in
-    let p = err_from_is_err_and c.from-residual.result c.from-residual.ensures.1 in
+    let p = err_from_is_err_and c.from_residual.result c.from_residual.ensures.1 in
     record {
-      answer = rw (p.1, p.2) (first_before (slip_tests Form file) (form_scratch_test (size_named file) (length c.args.scratch.now) ∷ form_body_tests file) _ c.in-err-slip.ensures);
+      answer = rw (p.1, p.2) (first_before (slip_tests Form file) (form_scratch_test (size_named file) (length c.args.scratch.now) ∷ form_body_tests file) _ c.in_err-slip.ensures);
       kept = rw p.1 refl;
       wiped = search rules;
     }
@@ -25,21 +25,21 @@ pub returns-then-guard-size : goal.returns-then-guard-size
 unfolding form_tests
 returns-then-guard-size c =
     let file = c.args.file.now in
-    let n = c.size.ensures ∙ ap size_of c.class.ensures ∙ sym c.in-ok-slip.ensures.1.size in
+    let n = c.size.ensures ∙ ap size_of c.class.ensures ∙ sym c.in_ok-slip.ensures.1.size in
     record {
-      answer = scratch_fails (slip_tests Form file) (form_body_tests file) (form_fault Scratch) (length c.args.scratch.now) (size_named file) c.in-ok-slip.ensures.0 (λ e. c.if-guard-size.true (e ∙ sym (ap (λ k. 4 * k) n)));
+      answer = scratch_fails (slip_tests Form file) (form_body_tests file) (form_fault Scratch) (length c.args.scratch.now) (size_named file) c.in_ok-slip.ensures.0 (λ e. c.if-guard-size.true (e ∙ sym (ap (λ k. 4 * k) n)));
       kept = refl;
       wiped = search rules;
     }
 
-pub returns-in-err-form : goal.returns-in-err-form
+pub returns-in_err-form : goal.returns-in_err-form
 unfolding form_tests
-returns-in-err-form c =
+returns-in_err-form c =
     let file = c.args.file.now in
-    let n = c.size.ensures ∙ ap size_of c.class.ensures ∙ sym c.in-ok-slip.ensures.1.size in
-    let p = err_from_is_err_and c.from-residual-in-err-form.result c.from-residual-in-err-form.ensures.1 in
+    let n = c.size.ensures ∙ ap size_of c.class.ensures ∙ sym c.in_ok-slip.ensures.1.size in
+    let p = err_from_is_err_and c.from_residual-in_err-form.result c.from_residual-in_err-form.ensures.1 in
     record {
-      answer = rw (p.1, p.2) (after_scratch (slip_tests Form file) (form_body_tests file) (form_fault Scratch) (length c.args.scratch.now) (size_named file) c.in-ok-slip.ensures.0 (c.if-guard-size.false ∙ ap (λ k. 4 * k) n) ∙ c.in-err-form.ensures);
+      answer = rw (p.1, p.2) (after_scratch (slip_tests Form file) (form_body_tests file) (form_fault Scratch) (length c.args.scratch.now) (size_named file) c.in_ok-slip.ensures.0 (c.if-guard-size.false ∙ ap (λ k. 4 * k) n) ∙ c.in_err-form.ensures);
       kept = rw p.1 refl;
       wiped = search rules;
     }
@@ -48,9 +48,9 @@ pub returns : goal.returns
 unfolding form_tests
 returns c =
     let file = c.args.file.now in
-    let n = c.size.ensures ∙ ap size_of c.class.ensures ∙ sym c.in-ok-slip.ensures.1.size in
+    let n = c.size.ensures ∙ ap size_of c.class.ensures ∙ sym c.in_ok-slip.ensures.1.size in
     record {
-      answer = (after_scratch (slip_tests Form file) (form_body_tests file) (form_fault Scratch) (length c.args.scratch.now) (size_named file) c.in-ok-slip.ensures.0 (c.if-guard-size.false ∙ ap (λ k. 4 * k) n) ∙ c.in-ok-form.ensures.0, c.in-ok-form.ensures.1);
+      answer = (after_scratch (slip_tests Form file) (form_body_tests file) (form_fault Scratch) (length c.args.scratch.now) (size_named file) c.in_ok-slip.ensures.0 (c.if-guard-size.false ∙ ap (λ k. 4 * k) n) ∙ c.in_ok-form.ensures.0, c.in_ok-form.ensures.1);
       kept = tt;
       wiped = search rules;
     }

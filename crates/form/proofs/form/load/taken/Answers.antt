@@ -11,7 +11,7 @@ overflow-add-result c =
     let end = part_end file c.args.slip.now c.requires.read c.args.i c.requires.there in
     let size = ap size_of c.class-2.ensures in
     let few = c.in-Some.ensures.2 in
-    omega (arith, part.from, end, size, few, c.used.ensures.len, c.requires.read.size, c.well-formed)
+    omega (arith, part.from, end, size, few, c.used.ensures.len, c.requires.read.size, c.well_formed)
 
 pub returns-in-Some : goal.returns-in-Some
 returns-in-Some c =

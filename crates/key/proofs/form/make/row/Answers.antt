@@ -8,20 +8,20 @@ pub overflow-add-entry : goal.overflow-add-entry
 overflow-add-entry c =
     entry_fits c.args.a.now c.args.b.now c.args.c.now c.args.d.now c.requires.elements c.star.new.out c.widen.new.words c.star-2.new.out c.widen-2.new.words
     c.star.ensures c.widen.ensures c.star-2.ensures c.widen-2.ensures c.loop-k.k c.loop-k-test.true c.coefficient.result c.coefficient-in-loop-k.result
-    (record { sfits = c.coefficient.type-inv }) (record { sfits = c.coefficient-in-loop-k.type-inv }) c.coefficient.ensures c.coefficient-in-loop-k.ensures
+    (record { sfits = c.coefficient.type_inv }) (record { sfits = c.coefficient-in-loop-k.type_inv }) c.coefficient.ensures c.coefficient-in-loop-k.ensures
 
 pub overflow-cast-numbers : goal.overflow-cast-numbers
 overflow-cast-numbers c =
     entry_narrow c.args.a.now c.args.b.now c.args.c.now c.args.d.now c.requires.elements c.star.new.out c.widen.new.words c.star-2.new.out c.widen-2.new.words
     c.star.ensures c.widen.ensures c.star-2.ensures c.widen-2.ensures c.loop-k.k c.loop-k-test.true c.coefficient.result c.coefficient-in-loop-k.result
-    (record { sfits = c.coefficient.type-inv }) (record { sfits = c.coefficient-in-loop-k.type-inv }) c.coefficient.ensures c.coefficient-in-loop-k.ensures
+    (record { sfits = c.coefficient.type_inv }) (record { sfits = c.coefficient-in-loop-k.type_inv }) c.coefficient.ensures c.coefficient-in-loop-k.ensures
 
 pub loop-k-preserved : goal.loop-k-preserved
 loop-k-preserved c =
     let long = length_starred c.args.a.now c.args.b.now c.args.c.now c.args.d.now c.requires.elements in
     filled_more c.loop-k.numbers (starred c.args.a.now c.args.b.now c.args.c.now c.args.d.now) c.loop-k.k _ (omega (arith, long)) (omega (arith, long, c.requires.elements.a_small.few)) (entry_stored c.args.a.now c.args.b.now c.args.c.now c.args.d.now c.requires.elements c.star.new.out c.widen.new.words c.star-2.new.out c.widen-2.new.words
     c.star.ensures c.widen.ensures c.star-2.ensures c.widen-2.ensures c.loop-k.k c.loop-k-test.true c.coefficient.result c.coefficient-in-loop-k.result
-    (record { sfits = c.coefficient.type-inv }) (record { sfits = c.coefficient-in-loop-k.type-inv }) c.coefficient.ensures c.coefficient-in-loop-k.ensures) c.loop-k.invariant
+    (record { sfits = c.coefficient.type_inv }) (record { sfits = c.coefficient-in-loop-k.type_inv }) c.coefficient.ensures c.coefficient-in-loop-k.ensures) c.loop-k.invariant
 
 pub returns : goal.returns
 returns c =

@@ -10,13 +10,13 @@ use Rattle.key.specs.declared.fault.KeyFault.TheVariants.{Scratch}
 use Rattle.key.proofs.Body.{scratch_fails, after_scratch}
 use Rattle.key.proofs.key.Key.load.Goals as goal
 
-pub returns-in-err-slip : goal.returns-in-err-slip
+pub returns-in_err-slip : goal.returns-in_err-slip
 unfolding key_tests
-returns-in-err-slip c =
+returns-in_err-slip c =
     let file = c.args.file.now in
-    let p = err_from_is_err_and c.from-residual.result c.from-residual.ensures.1 in
+    let p = err_from_is_err_and c.from_residual.result c.from_residual.ensures.1 in
     record {
-      answer = rw (p.1, p.2) (first_before (slip_tests Key file) (scratch_test (size_named file) (length c.args.scratch.now) ∷ body_tests file) _ c.in-err-slip.ensures);
+      answer = rw (p.1, p.2) (first_before (slip_tests Key file) (scratch_test (size_named file) (length c.args.scratch.now) ∷ body_tests file) _ c.in_err-slip.ensures);
       kept = rw p.1 refl;
       wiped = search rules;
     }
@@ -25,21 +25,21 @@ pub returns-then-guard-size : goal.returns-then-guard-size
 unfolding key_tests
 returns-then-guard-size c =
     let file = c.args.file.now in
-    let n = c.size.ensures ∙ ap size_of c.class.ensures ∙ sym c.in-ok-slip.ensures.1.size in
+    let n = c.size.ensures ∙ ap size_of c.class.ensures ∙ sym c.in_ok-slip.ensures.1.size in
     record {
-      answer = scratch_fails (slip_tests Key file) (body_tests file) (key_fault Scratch) (length c.args.scratch.now) (size_named file) c.in-ok-slip.ensures.0 (λ e. c.if-guard-size.true (e ∙ sym (ap (λ k. 4 * k) n)));
+      answer = scratch_fails (slip_tests Key file) (body_tests file) (key_fault Scratch) (length c.args.scratch.now) (size_named file) c.in_ok-slip.ensures.0 (λ e. c.if-guard-size.true (e ∙ sym (ap (λ k. 4 * k) n)));
       kept = refl;
       wiped = search rules;
     }
 
-pub returns-in-err-key : goal.returns-in-err-key
+pub returns-in_err-key : goal.returns-in_err-key
 unfolding key_tests
-returns-in-err-key c =
+returns-in_err-key c =
     let file = c.args.file.now in
-    let n = c.size.ensures ∙ ap size_of c.class.ensures ∙ sym c.in-ok-slip.ensures.1.size in
-    let p = err_from_is_err_and c.from-residual-in-err-key.result c.from-residual-in-err-key.ensures.1 in
+    let n = c.size.ensures ∙ ap size_of c.class.ensures ∙ sym c.in_ok-slip.ensures.1.size in
+    let p = err_from_is_err_and c.from_residual-in_err-key.result c.from_residual-in_err-key.ensures.1 in
     record {
-      answer = rw (p.1, p.2) (after_scratch (slip_tests Key file) (body_tests file) (key_fault Scratch) (length c.args.scratch.now) (size_named file) c.in-ok-slip.ensures.0 (c.if-guard-size.false ∙ ap (λ k. 4 * k) n) ∙ c.in-err-key.ensures);
+      answer = rw (p.1, p.2) (after_scratch (slip_tests Key file) (body_tests file) (key_fault Scratch) (length c.args.scratch.now) (size_named file) c.in_ok-slip.ensures.0 (c.if-guard-size.false ∙ ap (λ k. 4 * k) n) ∙ c.in_err-key.ensures);
       kept = rw p.1 refl;
       wiped = search rules;
     }
@@ -48,9 +48,9 @@ pub returns : goal.returns
 unfolding key_tests
 returns c =
     let file = c.args.file.now in
-    let n = c.size.ensures ∙ ap size_of c.class.ensures ∙ sym c.in-ok-slip.ensures.1.size in
+    let n = c.size.ensures ∙ ap size_of c.class.ensures ∙ sym c.in_ok-slip.ensures.1.size in
     record {
-      answer = (after_scratch (slip_tests Key file) (body_tests file) (key_fault Scratch) (length c.args.scratch.now) (size_named file) c.in-ok-slip.ensures.0 (c.if-guard-size.false ∙ ap (λ k. 4 * k) n) ∙ c.in-ok-key.ensures.0, c.in-ok-key.ensures.1);
+      answer = (after_scratch (slip_tests Key file) (body_tests file) (key_fault Scratch) (length c.args.scratch.now) (size_named file) c.in_ok-slip.ensures.0 (c.if-guard-size.false ∙ ap (λ k. 4 * k) n) ∙ c.in_ok-key.ensures.0, c.in_ok-key.ensures.1);
       kept = tt;
       wiped = search rules;
     }

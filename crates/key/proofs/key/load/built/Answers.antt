@@ -15,17 +15,17 @@ pub stored-requires-2 : goal.stored-requires-2
 stored-requires-2 c = omega (arith, length_numbers8 c.args.g.now, c.requires.words.g_words.few)
 
 pub stored-requires-3 : goal.stored-requires-3
-stored-requires-3 c = omega (arith, length_numbers8 c.args.cap-f.now, c.requires.words.F_words.few)
+stored-requires-3 c = omega (arith, length_numbers8 c.args.cap_f.now, c.requires.words.F_words.few)
 
 pub stored-requires-4 : goal.stored-requires-4
-stored-requires-4 c = omega (arith, length_numbers8 c.args.cap-g.now, c.requires.words.G_words.few)
+stored-requires-4 c = omega (arith, length_numbers8 c.args.cap_g.now, c.requires.words.G_words.few)
 
 pub invariant-of-result : goal.invariant-of-result
 invariant-of-result c =
     let f = ap (front c.args.class) c.stored.ensures ∙ front_padded c.args.class (numbers8 c.args.f.now) c.requires.size in
     let g = ap (front c.args.class) c.stored-2.ensures ∙ front_padded c.args.class (numbers8 c.args.g.now) (c.requires.words.g_long ∙ c.requires.size) in
-    let F = ap (front c.args.class) c.stored-3.ensures ∙ front_padded c.args.class (numbers8 c.args.cap-f.now) (c.requires.words.F_long ∙ c.requires.size) in
-    let G = ap (front c.args.class) c.stored-4.ensures ∙ front_padded c.args.class (numbers8 c.args.cap-g.now) (c.requires.words.G_long ∙ c.requires.size) in (
+    let F = ap (front c.args.class) c.stored-3.ensures ∙ front_padded c.args.class (numbers8 c.args.cap_f.now) (c.requires.words.F_long ∙ c.requires.size) in
+    let G = ap (front c.args.class) c.stored-4.ensures ∙ front_padded c.args.class (numbers8 c.args.cap_g.now) (c.requires.words.G_long ∙ c.requires.size) in (
       ap (all_within key_limit) f ∙ c.requires.words.f_words.small,
       (
         ap (all_within key_limit) g ∙ c.requires.words.g_words.small,

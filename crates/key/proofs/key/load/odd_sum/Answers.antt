@@ -18,4 +18,4 @@ loop-i-preserved c =
     sum_step key_limit xs c.loop-i.i _ (bounded_from key_limit xs c.requires.small) c.requires.few (lit≤ tt) c.loop-i-test.true c.loop-i.invariant.0 c.loop-i.invariant.1
 
 pub returns : goal.returns
-returns c = odd_is c.rem-euclid.result _ _ c.rem-euclid.ensures.value (c.loop-i.invariant.0 ∙ total_all c.args.numbers.now c.loop-i.i c.loop-i-test.false)
+returns c = odd_is c.rem_euclid.result _ _ c.rem_euclid.ensures.value (c.loop-i.invariant.0 ∙ total_all c.args.numbers.now c.loop-i.i c.loop-i-test.false)

@@ -7,10 +7,10 @@ use Rattle.key.proofs.key.load.stored.Goals as goal
 pub loop-i-preserved : goal.loop-i-preserved
 loop-i-preserved c =
     let bytes = c.args.bytes.now in
-    let fits : SFits w8 c.cast-signed.result = record { sfits = c.cast-signed.type-inv } in
+    let fits : SFits w8 c.cast_signed.result = record { sfits = c.cast_signed.type_inv } in
     let long = length_numbers8 bytes in
     filled_more c.loop-i.numbers (numbers8 bytes) c.loop-i.i _ (omega arith) (omega arith)
-    (to_z-of_z w8 c.cast-signed.result fits ∙ c.cast-signed.ensures ∙ sym (numbers8_at bytes c.loop-i.i c.loop-i-test.true)) c.loop-i.invariant
+    (to_z-of_z w8 c.cast_signed.result fits ∙ c.cast_signed.ensures ∙ sym (numbers8_at bytes c.loop-i.i c.loop-i-test.true)) c.loop-i.invariant
 
 pub returns : goal.returns
 returns c = let long = length_numbers8 c.args.bytes.now in filled_all c.loop-i.numbers (numbers8 c.args.bytes.now) c.loop-i.i (omega arith) (omega arith) c.loop-i.invariant

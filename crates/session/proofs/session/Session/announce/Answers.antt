@@ -9,10 +9,10 @@ use Rattle.session.proofs.Replies.{announce_orders}
 use Rattle.session.proofs.Transitions.{class_in, basis_in, same_step}
 use Rattle.session.proofs.session.Session.announce.Goals as goal
 
-pub returns-in-err-reply : goal.returns-in-err-reply
-returns-in-err-reply c =
-    let e = c.in-err-reply.ensures in
-    let p = err_from_is_err_and c.from-residual.result c.from-residual.ensures.1 in
+pub returns-in_err-reply : goal.returns-in_err-reply
+returns-in_err-reply c =
+    let e = c.in_err-reply.ensures in
+    let p = err_from_is_err_and c.from_residual.result c.from_residual.ensures.1 in
     let t = nil_from_length c.transition.new.target c.transition.auto.target in
     let g = nil_from_length c.transition.new.signature c.transition.auto.signature in
     record { step = same_step (ap announced p.1 ∙ ap (λ y. refused (session_fault y)) p.2) (sym t) (sym g) refl ∙ e.step; key = e.key; lender = e.lender }
@@ -20,11 +20,11 @@ returns-in-err-reply c =
 pub unreachable-requires : goal.unreachable-requires
 unreachable-requires c =
     let s = c.args.self.now in
-    announce_orders (class_in s) (basis_in s) (state_of s) c.in-ok-reply.reply _ c.in-ok-reply.ensures.step c.in-default.not-Ordered
+    announce_orders (class_in s) (basis_in s) (state_of s) c.in_ok-reply.reply _ c.in_ok-reply.ensures.step c.in_default.not-Ordered
 
 pub returns : goal.returns
 returns c =
-    let e = c.in-ok-reply.ensures in
+    let e = c.in_ok-reply.ensures in
     let t = nil_from_length c.transition.new.target c.transition.auto.target in
     let g = nil_from_length c.transition.new.signature c.transition.auto.signature in
     record { step = same_step (sym (ap replied c.in-Ordered.is)) (sym t) (sym g) refl ∙ e.step; key = e.key; lender = e.lender }

@@ -16,8 +16,8 @@ returns c =
     let s = c.args.self.now in
     let l : length s.hash ≡ 256 = search rules in
     let free : s.issued + 1 ≤ s.capacity = rw (ap (λ (t : Status). s.issued + orders t) c.requires) at s.free in
-    let a = appended_log (hash_length_of (class_in s)) s.issued c.hash-length-size.result (kept_in s) _ s.log.now c.write-entry.new.log
-    (c.hash-length-size.ensures ∙ ap hash_length_of c.class.ensures.class) (front_is c.hash-length-size.result s.hash (c.hash-length-size.ensures ∙ ap hash_length_of c.class.ensures.class)) (kept_length s l) c.write-entry.ensures
+    let a = appended_log (hash_length_of (class_in s)) s.issued c.hash_length-size.result (kept_in s) _ s.log.now c.write_entry.new.log
+    (c.hash_length-size.ensures ∙ ap hash_length_of c.class.ensures.class) (front_is c.hash_length-size.result s.hash (c.hash_length-size.ensures ∙ ap hash_length_of c.class.ensures.class)) (kept_length s l) c.write_entry.ensures
     (room_there (class_in s) (length s.log.now) s.issued s.capacity s.room free) in
     record {
       state = same_state (a.0 ∙ ap (λ xs. chunks (hash_length_of (class_in s)) s.issued s.log.now ++ (xs ∷ [])) (sym (kept_stands s c.requires))) refl refl a.1;

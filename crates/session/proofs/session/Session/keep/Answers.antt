@@ -8,7 +8,7 @@ front_is n copied rest hash e l = ap (λ xs. Some xs) (take_at copied rest n (ap
 
 pub returns : goal.returns
 returns c = record {
-  state = same_state refl (front_is _ _ _ _ c.copy-from-slice.ensures.after c.requires.long) refl refl;
+  state = same_state refl (front_is _ _ _ _ c.copy_from_slice.ensures.after c.requires.long) refl refl;
   key = refl;
   lender = refl;
 }

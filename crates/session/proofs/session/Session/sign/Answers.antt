@@ -9,7 +9,7 @@ use Rattle.session.proofs.session.Session.sign.Goals as goal
 pub unreachable-requires : goal.unreachable-requires
 unreachable-requires c =
     let s = c.args.self.now in
-    sign_signs (class_in s) (basis_in s) (state_of s) c.in-Ok.reply _ _ _ _ c.in-Ok.ensures.step c.in-default.not-Signed
+    sign_signs (class_in s) (basis_in s) (state_of s) c.in-Ok.reply _ _ _ _ c.in-Ok.ensures.step c.in_default.not-Signed
 
 pub returns-in-Ok : goal.returns-in-Ok
 returns-in-Ok c =
