@@ -1,5 +1,5 @@
 -- Signed numbers as bytes, highest byte first. Assumes nothing.
-use Rattle.std.specs.Prelude.{ℕ, ◌+◌, ◌*◌, ◌/◌, ◌%◌, List, [], ◌∷◌, ◌++◌, map, length, ℤ}
+use Rattle.std.specs.Prelude.{ℕ, ◌*◌, ◌/◌, ◌%◌, List, [], ◌∷◌, ◌++◌, map, length, ℤ}
 use Rattle.std.specs.Int.{w8, w32}
 use Rattle.std.proofs.Common.{of_z, to_z}
 use Rattle.std.specs.List.{range_with_len}

@@ -1,4 +1,6 @@
 // Slips: the layout of keys, forms and signatures as bytes.
+#![tactic(auto)]
+
 mod fault;
 mod kind;
 mod numbers;

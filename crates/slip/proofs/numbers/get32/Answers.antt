@@ -8,9 +8,9 @@ use Rattle.slip.proofs.numbers.get32.Goals as goal
 pub loop-i-preserved : goal.loop-i-preserved
 unfolding number32
 loop-i-preserved c =
-    let f : SFits w32 c.cast-signed.result = search rules in
-    let e = to_z-of_z w32 c.cast-signed.result f in
-    let s = take_more_set c.loop-i.numbers c.loop-i.i (to_z w32 (of_z w32 c.cast-signed.result)) (omega arith) in
+    let f : SFits w32 c.cast_signed.result = search rules in
+    let e = to_z-of_z w32 c.cast_signed.result f in
+    let s = take_more_set c.loop-i.numbers c.loop-i.i (to_z w32 (of_z w32 c.cast_signed.result)) (omega arith) in
     let m = map-range_with_len_more (number32 c.args.bytes.now) 0 c.loop-i.i c.loop-i.i (omega arith) in
     cc
 

@@ -15,8 +15,8 @@ pub loop-i-preserved : goal.loop-i-preserved
 unfolding split32
 loop-i-preserved c =
     let f : SFits w32 (get_or c.args.numbers.now c.loop-i.i (pos 0)) = search rules in (
-      step32 c.args.place c.loop-i.i c.args.numbers.now c.args.area.now c.loop-i.area c.put.new.area c.to-be-bytes.result
-          (omega arith) (omega arith) c.loop-i.invariant.0 (simp to_z-of_z at c.to-be-bytes.ensures) c.put.ensures,
+      step32 c.args.place c.loop-i.i c.args.numbers.now c.args.area.now c.loop-i.area c.put.new.area c.to_be_bytes.result
+          (omega arith) (omega arith) c.loop-i.invariant.0 (simp to_z-of_z at c.to_be_bytes.ensures) c.put.ensures,
       All-more (SFits w32) c.args.numbers.now c.loop-i.i (pos 0) (omega arith) c.loop-i.invariant.1 f,
     )
 

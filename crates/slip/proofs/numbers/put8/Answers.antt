@@ -14,8 +14,8 @@ loop-i-init c = (sym (written_none c.args.place c.args.area.now), tt)
 pub loop-i-preserved : goal.loop-i-preserved
 loop-i-preserved c =
     let f : SFits w8 (get_or c.args.numbers.now c.loop-i.i (pos 0)) = search rules in (
-      step8 c.args.place c.loop-i.i c.args.numbers.now c.args.area.now c.loop-i.area c.put.new.area c.cast-unsigned.result
-          (omega arith) (omega arith) c.loop-i.invariant.0 (simp to_z-of_z at c.cast-unsigned.ensures) c.put.ensures,
+      step8 c.args.place c.loop-i.i c.args.numbers.now c.args.area.now c.loop-i.area c.put.new.area c.cast_unsigned.result
+          (omega arith) (omega arith) c.loop-i.invariant.0 (simp to_z-of_z at c.cast_unsigned.ensures) c.put.ensures,
       All-more (SFits w8) c.args.numbers.now c.loop-i.i (pos 0) (omega arith) c.loop-i.invariant.1 f,
     )
 

@@ -11,9 +11,9 @@ loop-i-init c = refl
 pub loop-i-preserved : goal.loop-i-preserved
 unfolding numbers8
 loop-i-preserved c =
-    let f : SFits w8 c.cast-signed.result = search rules in
-    let e = to_z-of_z w8 c.cast-signed.result f in
-    let s = take_more_set c.loop-i.numbers c.loop-i.i (to_z w8 (of_z w8 c.cast-signed.result)) (omega arith) in
+    let f : SFits w8 c.cast_signed.result = search rules in
+    let e = to_z-of_z w8 c.cast_signed.result f in
+    let s = take_more_set c.loop-i.numbers c.loop-i.i (to_z w8 (of_z w8 c.cast_signed.result)) (omega arith) in
     let m = map_more (to_z w8) c.args.bytes.now c.loop-i.i 0 (omega arith) in
     cc
 

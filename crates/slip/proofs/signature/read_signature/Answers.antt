@@ -12,20 +12,20 @@ use Rattle.slip.specs.Writes.{same_tests}
 use Rattle.ring.proofs.Firsts.{first_after, first_before}
 use Rattle.slip.proofs.signature.read_signature.Goals as goal
 
-pub returns-in-err-slip : goal.returns-in-err-slip
+pub returns-in_err-slip : goal.returns-in_err-slip
 unfolding read_tests
-returns-in-err-slip c =
-    let p = err_from_is_err_and c.from-residual.result c.from-residual.ensures.1 in
+returns-in_err-slip c =
+    let p = err_from_is_err_and c.from_residual.result c.from_residual.ensures.1 in
     rw (p.1, p.2) (record {
       answer = first_before (slip_tests Signature c.args.file.now) (same_tests (length c.args.numbers.now) (2 * size_named c.args.file.now))
-          (slip_fault c.in-err-slip.field-0.0) c.in-err-slip.ensures;
+          (slip_fault c.in_err-slip.field-0.0) c.in_err-slip.ensures;
       kept = refl;
     })
 
 pub returns-then-numbers-n : goal.returns-then-numbers-n
 unfolding read_tests
 returns-then-numbers-n c =
-    let h = c.in-ok-slip.ensures in
+    let h = c.in_ok-slip.ensures in
     let e = first_after (slip_tests Signature c.args.file.now) (same_tests (length c.args.numbers.now) (2 * size_named c.args.file.now)) h.0 in
     record { answer = e ∙ grind (arith, nat_tests); kept = refl }
 
@@ -38,7 +38,7 @@ get32-requires-2 c = search (rules, places)
 pub returns : goal.returns
 unfolding read_tests signature_numbers
 returns c =
-    let h = c.in-ok-slip.ensures in
+    let h = c.in_ok-slip.ensures in
     let e = first_after (slip_tests Signature c.args.file.now) (same_tests (length c.args.numbers.now) (2 * size_named c.args.file.now)) h.0 in
     let a : c.get32.new.numbers ≡ numbers32 (section_bytes Signature (size_named c.args.file.now) c.args.file.now 0) = search rules in
     let b : c.get32-2.new.numbers ≡ numbers32 (section_bytes Signature (size_named c.args.file.now) c.args.file.now 1) = search rules in

@@ -6,13 +6,13 @@ use Rattle.slip.specs.Writes.{trailer_of}
 use Rattle.slip.proofs.Pairs.{pair_count, slip_written, reads_as}
 use Rattle.slip.proofs.signature.write_signature.Goals as goal
 
-pub returns-in-default : goal.returns-in-default
+pub returns-in_default : goal.returns-in_default
 unfolding write_tests
-returns-in-default c = search rules
+returns-in_default c = search rules
 
-pub returns-then-area-body-length : goal.returns-then-area-body-length
+pub returns-then-area-body_length : goal.returns-then-area-body_length
 unfolding write_tests
-returns-then-area-body-length c = search (rules, pair_count)
+returns-then-area-body_length c = search (rules, pair_count)
 
 pub put32-requires : goal.put32-requires
 put32-requires c = search (rules, pair_count)
@@ -22,12 +22,12 @@ unfolding write_tests signature_slip
 returns c =
     let e : signature_class (length c.args.numbers.now) ≡ Some c.in-Some.class = search rules in
     let n = pair_count (length c.args.numbers.now) c.in-Some.class e in
-    let a : c.put-trailer.new.area ≡ bytes32 c.args.numbers.now ++ trailer_of Signature c.in-Some.class =
-    slip_written c.args.numbers.now c.in-Some.class c.args.area.now c.put32.new.area c.put-trailer.new.area
-    e (omega arith) c.put32.ensures.after c.put-trailer.ensures in
+    let a : c.put_trailer.new.area ≡ bytes32 c.args.numbers.now ++ trailer_of Signature c.in-Some.class =
+    slip_written c.args.numbers.now c.in-Some.class c.args.area.now c.put32.new.area c.put_trailer.new.area
+    e (omega arith) c.put32.ensures.after c.put_trailer.ensures in
     record {
       answer = (search rules, a ∙ sym (ap (λ o. bytes32 c.args.numbers.now ++ trailer_in o) e));
       kept = tt;
-      back = λ report. reads_as report c.args.numbers.now c.in-Some.class (report ++ c.put-trailer.new.area) e
+      back = λ report. reads_as report c.args.numbers.now c.in-Some.class (report ++ c.put_trailer.new.area) e
           c.put32.ensures.back (ap (λ l. report ++ l) a);
     }

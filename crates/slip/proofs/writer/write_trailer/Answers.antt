@@ -7,5 +7,5 @@ returns c =
     record {
       answer = search rules;
       kept = tt;
-      passes = λ before h. written_passes c.args.kind c.args.class before c.args.area.now c.put-trailer.new.area (omega arith) c.put-trailer.ensures h;
+      passes = λ before h. written_passes c.args.kind c.args.class before c.args.area.now c.put_trailer.new.area (omega arith) c.put_trailer.ensures h;
     }

@@ -10,17 +10,17 @@ pub returns-then-file-end : goal.returns-then-file-end
 unfolding slip_tests back class_named size_named
 returns-then-file-end c = search rules
 
-pub returns-in-default : goal.returns-in-default
+pub returns-in_default : goal.returns-in_default
 unfolding slip_tests back class_named size_named
-returns-in-default c = search rules
+returns-in_default c = search rules
 
 pub returns-then-at16-sections : goal.returns-then-at16-sections
 unfolding slip_tests back class_named size_named
 returns-then-at16-sections c = search rules
 
-pub returns-then-back-body-length : goal.returns-then-back-body-length
+pub returns-then-back-body_length : goal.returns-then-back-body_length
 unfolding slip_tests back class_named size_named
-returns-then-back-body-length c = search rules
+returns-then-back-body_length c = search rules
 
 pub returns-then-end-back : goal.returns-then-end-back
 unfolding slip_tests back class_named size_named
