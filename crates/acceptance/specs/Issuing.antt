@@ -9,7 +9,7 @@ use Rattle.scheme.specs.Hashes.{hash_pair}
 use Rattle.scheme.specs.Keys.{Basis, IsKey, form_of, Within}
 use Rattle.scheme.specs.Matrices.{Pair, PairOf, applied, basis_of}
 use Rattle.scheme.specs.Pairs.{numbers_of}
-use Rattle.scheme.specs.Sessions.{opened, Call, announce, sign, Answer, ordered, signed, Event}
+use Rattle.scheme.specs.Sessions.{opened, announce, sign, Answer, ordered, signed, Event}
 use Rattle.scheme.specs.Signing.{signature_of, length_of}
 use Rattle.scheme.specs.Steps.{run, sample_tests}
 use Rattle.scheme.specs.Verdicts.{Accepted, point_of}

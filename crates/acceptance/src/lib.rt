@@ -1,5 +1,7 @@
 // What verification accepts is what the signer issues. The functions here do nothing: their contracts are the
 // theorems, and specs/ says each in full.
+#![tactic(auto)]
+
 ghost use Rattle.acceptance.specs.Limits.{LimitsNeverRefuse};
 ghost use Rattle.acceptance.specs.Issuing.{IssuedIsAccepted, AcceptedIsAlwaysIssued};
 

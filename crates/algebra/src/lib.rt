@@ -1,4 +1,6 @@
 // The algebra of keys. The functions here do nothing: their contracts are the theorems, and specs/ says each in full.
+#![tactic(auto)]
+
 ghost use Rattle.algebra.specs.Laws.{ElementLaws};
 ghost use Rattle.algebra.specs.Isometries.{BasesAreMatrices, OneFormOneJoiner, InvertibleModuloTwo};
 ghost use Rattle.algebra.specs.Counting.{FormsOfKeys, Exactly4n};

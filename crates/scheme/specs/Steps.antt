@@ -1,5 +1,5 @@
 -- What each call of a session does: its tests in their order, and its work. Assumes nothing.
-use Rattle.std.specs.Prelude.{ℕ, ◌+◌, ◌*◌, Bool, true, false, not, ◌&&◌, ◌||◌, List, [], ◌∷◌, ◌++◌, length, drop, ℤ, is_some, Some, None, Option, ◌==◌, nat_le, nat_lt}
+use Rattle.std.specs.Prelude.{ℕ, ◌+◌, ◌*◌, Bool, false, not, ◌&&◌, ◌||◌, List, [], ◌∷◌, ◌++◌, length, drop, ℤ, is_some, Some, None, Option, ◌==◌, nat_le, nat_lt}
 use Rattle.std.specs.Option.{unwrap_or}
 use Rattle.std.specs.Str.{bytes_eq}
 use Rattle.ring.specs.Classes.{size_of, bound_of, hash_length_of}
@@ -11,7 +11,7 @@ use Rattle.scheme.specs.Keys.{Basis}
 use Rattle.scheme.specs.Matrices.{Pair}
 use Rattle.scheme.specs.Pairs.{pair_from, numbers_of, parities, is_zero, leader}
 use Rattle.scheme.specs.Refusals.{session_fault}
-use Rattle.scheme.specs.Sessions.{State, Call, announce, target, sign, withdraw, count, Answer, refused, ordered, aimed, signed, withdrawn, counted, Step, Event}
+use Rattle.scheme.specs.Sessions.{State, Call, announce, target, sign, withdraw, count, refused, ordered, aimed, signed, withdrawn, counted, Step, Event}
 use Rattle.scheme.specs.Signing.{target_of, source_of, changes, signature_of, length_of}
 use Rattle.scheme.specs.declared.fault.SessionFault.TheVariants.{Length, Coset, Bound, Zero, Standing, Order, Full, Logged}
 
