@@ -3,7 +3,6 @@ ghost use Rattle.std.specs.Prelude.{◌≡◌, true, pos};
 ghost use Rattle.ring.specs.Classes.{size_of};
 ghost use Rattle.ring.specs.Elements.{total, constant};
 ghost use Rattle.scheme.specs.Keys.{basis, all_within, odd, determinant, key_limit, IsKey};
-ghost use Rattle.key.specs.Held.{basis_of};
 ghost use Rattle.key.specs.Stored.{front};
 
 use ring::Class;
@@ -34,7 +33,7 @@ impl Key {
     // The class. Numbers within ±127, odd sums of f and g, and fG − gF = 1 hold of the key asked.
     pub fn class(&self) -> Class
         ensures class { result ≡ self.now.class }
-        ensures sound { IsKey (size_of self.now.class) (basis_of self.now) }
+        ensures sound { IsKey (size_of self.now.class) (basis (front self.now.class self.now.f) (front self.now.class self.now.g) (front self.now.class self.now.cap_f) (front self.now.class self.now.cap_g)) }
     {
         self.class
     }

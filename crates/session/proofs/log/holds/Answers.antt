@@ -12,8 +12,8 @@ pub loop-k-init : goal.loop-k-init
 unfolding listed chunks
 loop-k-init c = refl
 
-pub slice-bounds-eq-end : goal.slice-bounds-eq-end
-slice-bounds-eq-end c = omega (arith, place_within c.args.size c.loop-k.k c.args.count c.loop-k-test.true)
+pub slice_bounds-eq-end : goal.slice_bounds-eq-end
+slice_bounds-eq-end c = omega (arith, place_within c.args.size c.loop-k.k c.args.count c.loop-k-test.true)
 
 -- the part that the code compares is entry k
 part_is : (size k : ℕ) (log : List ℕ) → take (k * size + size - k * size) (drop (k * size) log) ≡ chunk size k log

@@ -6,8 +6,8 @@ use Rattle.signing.proofs.sample.squared_length.Goals as goal
 pub loop-i-init : goal.loop-i-init
 loop-i-init c = (refl, omega arith)
 
-pub overflow-add-sum : goal.overflow-add-sum
-overflow-add-sum c =
+pub overflow_add-sum : goal.overflow_add-sum
+overflow_add-sum c =
     let xs = c.args.sample.now in
     let fits : SFits w16 (get_or xs c.loop-i.i (pos 0)) = search rules in
     let size_is : c.from-size.result ≡ nat_abs (get_or xs c.loop-i.i (pos 0)) = c.from-size.ensures ∙ c.unsigned_abs.ensures.value ∙ ap nat_abs (to_z-of_z w16 (get_or xs c.loop-i.i (pos 0)) fits) in

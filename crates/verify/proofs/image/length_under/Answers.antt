@@ -63,8 +63,8 @@ returns-in_err-second c =
     let u1-is = row_is n (adjoint q.q01) q.q11 star t lower v0 v1 in
     rw c.from_residual-in_err-second.ensures (second_large q v0 v1 (row_image (shown p) r v0 v1) (row_image (shown star) t v0 v1) u0-is u1-is c.in_err-second.ensures)
 
-pub overflow-add-result : goal.overflow-add-result
-overflow-add-result c =
+pub overflow_add-result : goal.overflow_add-result
+overflow_add-result c =
     let form = c.args.form.now in
     let n = size_of form.class in
     let q = gram_of form in

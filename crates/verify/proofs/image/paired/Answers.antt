@@ -17,16 +17,16 @@ returns-then-not-in_limit c =
     let large = limit_read u c.loop-k.k c.image_at-u.result false (record { sfits = c.image_at-u.type_inv }) c.image_at-u.ensures c.if-not-in_limit.ensures in
     (passed_not image_limit u c.loop-k.k (omega (arith, c.requires.half.long)) large c.loop-k.invariant.0).0
 
-pub overflow-mul-sum : goal.overflow-mul-sum
-overflow-mul-sum c =
+pub overflow_mul-sum : goal.overflow_mul-sum
+overflow_mul-sum c =
     let n = length c.args.v0.now in
     let u = row_image (shown c.args.p.now) c.args.q.now c.args.v0.now c.args.v1.now in
     let long = length_image n (shown c.args.p.now) c.args.q.now c.args.v0.now c.args.v1.now c.requires.row in
     let small = limit_read u c.loop-k.k c.image_at-u.result true (record { sfits = c.image_at-u.type_inv }) c.image_at-u.ensures c.if-not-in_limit.ensures in
     term_fits n c.args.half.now u c.loop-k.k c.image_at-u.result c.requires.half long (omega (arith, c.requires.half.long)) (record { sfits = c.image_at-u.type_inv }) c.image_at-u.ensures small
 
-pub overflow-add-sum : goal.overflow-add-sum
-overflow-add-sum c =
+pub overflow_add-sum : goal.overflow_add-sum
+overflow_add-sum c =
     let n = length c.args.v0.now in
     let u = row_image (shown c.args.p.now) c.args.q.now c.args.v0.now c.args.v1.now in
     let long = length_image n (shown c.args.p.now) c.args.q.now c.args.v0.now c.args.v1.now c.requires.row in

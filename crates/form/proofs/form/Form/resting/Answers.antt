@@ -10,8 +10,8 @@ use Rattle.form.proofs.form.Form.resting.Goals as goal
 is_constant : (c : ℤ) (xs : List ℤ) → xs ≡ set (replicate room_of (pos 0)) 0 c → front One xs ≡ constant 4 c
 is_constant c xs e = ap (front One) e ∙ front_constant c
 
-pub invariant-of-result : goal.invariant-of-result
-invariant-of-result c =
+pub invariant_of-result : goal.invariant_of-result
+invariant_of-result c =
     let q00 = is_constant (pos 2) c.constant.result c.constant.ensures in
     let q01 = is_constant (pos 1) c.constant-2.result c.constant-2.ensures in
     let q11 = is_constant (pos 1) c.constant-3.result c.constant-3.ensures in (

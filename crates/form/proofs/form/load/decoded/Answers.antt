@@ -44,8 +44,8 @@ returns-in_err-selfadjoint c =
     let p = err_from_is_err_and c.from_residual-in_err-selfadjoint.result c.from_residual-in_err-selfadjoint.ensures.1 in
     rw (p.1, p.2) (after_form_ranges c.args.file.now _ _ _ t0 t1 t2 ∙ same_adjoints c.used.result.now c.used-2.result.now _ _ e0 e2 ∙ c.in_err-selfadjoint.ensures)
 
-pub invariant-of-result : goal.invariant-of-result
-invariant-of-result c =
+pub invariant_of-result : goal.invariant_of-result
+invariant_of-result c =
     let t0 = c.in_ok-q00.ensures.1 in
     let t1 = c.in_ok-q01.ensures.1 in
     let t2 = c.in_ok-q11.ensures.1 in

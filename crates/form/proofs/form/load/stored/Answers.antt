@@ -12,8 +12,8 @@ use Rattle.memory.proofs.Fronts.{stored_is}
 use Rattle.memory.proofs.Fronts.{size_room}
 use Rattle.form.proofs.form.load.stored.Goals as goal
 
-pub slice-bounds-memory-end : goal.slice-bounds-memory-end
-slice-bounds-memory-end c = search (rules, size_room, length-replicate)
+pub slice_bounds-memory-end : goal.slice_bounds-memory-end
+slice_bounds-memory-end c = search (rules, size_room, length-replicate)
 
 pub returns : goal.returns
 returns c =

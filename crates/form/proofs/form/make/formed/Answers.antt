@@ -6,8 +6,8 @@ use Rattle.key.specs.Held.{basis_of}
 use Rattle.form.proofs.Forms.{form_is, known_is, q00_is, q01_is, q11_is, gram_is, stored_small, stored_selfadjoint}
 use Rattle.form.proofs.form.make.formed.Goals as goal
 
-pub invariant-of-result : goal.invariant-of-result
-invariant-of-result c =
+pub invariant_of-result : goal.invariant_of-result
+invariant_of-result c =
     let key = c.args.key.now in
     let f = c.f-f.ensures.value in
     let g = c.g-g.ensures.value in

@@ -5,8 +5,8 @@ use Rattle.ring.proofs.Places.{adjoint_first}
 use Rattle.key.proofs.Adjoints.{mirror_fits, mirror_is}
 use Rattle.key.proofs.form.load.adjoint_at.Goals as goal
 
-pub overflow-sub-result-else-i-eq0 : goal.overflow-sub-result-else-i-eq0
-overflow-sub-result-else-i-eq0 c = mirror_fits c.args.numbers.now c.args.i c.requires.small (omega arith) c.requires.within
+pub overflow_sub-result-else-i-eq0 : goal.overflow_sub-result-else-i-eq0
+overflow_sub-result-else-i-eq0 c = mirror_fits c.args.numbers.now c.args.i c.requires.small (omega arith) c.requires.within
 
 pub returns-then-i-eq0 : goal.returns-then-i-eq0
 returns-then-i-eq0 c =

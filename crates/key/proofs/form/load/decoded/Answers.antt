@@ -44,24 +44,22 @@ returns-in_err-selfadjoint c =
     let p = err_from_is_err_and c.from_residual-in_err-selfadjoint.result c.from_residual-in_err-selfadjoint.ensures.1 in
     rw (p.1, p.2) (after_form_ranges c.args.file.now _ _ _ t0 t1 t2 ∙ same_adjoints c.used.result.now c.used-2.result.now _ _ e0 e2 ∙ c.in_err-selfadjoint.ensures)
 
-pub invariant-of-result : goal.invariant-of-result
-invariant-of-result c =
+pub invariant_of-result : goal.invariant_of-result
+invariant_of-result c =
     let t0 = c.in_ok-q00.ensures.1 in
     let t1 = c.in_ok-q01.ensures.1 in
     let t2 = c.in_ok-q11.ensures.1 in
     let e0 = held_is c.args.file.now c.args.slip.now c.requires 0 c.class-class.result _ (lit< tt) c.class-class.ensures t0 in
     let e1 = held_is c.args.file.now c.args.slip.now c.requires 1 c.class-class.result _ (lit< tt) c.class-class.ensures t1 in
     let e2 = held_is c.args.file.now c.args.slip.now c.requires 2 c.class-class.result _ (lit< tt) c.class-class.ensures t2 in
-    let parts = adjoint_parts c.used.result.now c.used-2.result.now c.in_ok-selfadjoint.ensures.0 in (
-      ap (all_within form_limit) e0 ∙ t0.in_range,
-      (
-        ap (all_within form_limit) e1 ∙ t1.in_range,
-        (
-          ap (all_within form_limit) e2 ∙ t2.in_range,
-          (rw c.used.ensures.value at parts.0, (rw c.used-2.ensures.value at parts.1, tt)),
-        ),
-      ),
-    )
+    let parts = adjoint_parts c.used.result.now c.used-2.result.now c.in_ok-selfadjoint.ensures.0 in
+    record {
+      small_q00 = ap (all_within form_limit) e0 ∙ t0.in_range;
+      small_q01 = ap (all_within form_limit) e1 ∙ t1.in_range;
+      small_q11 = ap (all_within form_limit) e2 ∙ t2.in_range;
+      selfadjoint_q00 = rw c.used.ensures.value at parts.0;
+      selfadjoint_q11 = rw c.used-2.ensures.value at parts.1;
+    }
 
 pub returns : goal.returns
 unfolding gram_in

@@ -12,8 +12,8 @@ use Rattle.key.proofs.FormBody.{stored_is}
 use Rattle.key.proofs.Sections.{size_room}
 use Rattle.key.proofs.form.load.stored.Goals as goal
 
-pub slice-bounds-memory-end : goal.slice-bounds-memory-end
-slice-bounds-memory-end c = search (rules, size_room, length-replicate)
+pub slice_bounds-memory-end : goal.slice_bounds-memory-end
+slice_bounds-memory-end c = search (rules, size_room, length-replicate)
 
 pub returns : goal.returns
 returns c =

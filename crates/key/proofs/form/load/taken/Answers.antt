@@ -4,8 +4,8 @@ use Rattle.key.proofs.FormBody.{form_in_range, form_out_of_range}
 use Rattle.key.proofs.Sections.{part_is, part_end}
 use Rattle.key.proofs.form.load.taken.Goals as goal
 
-pub overflow-add-result : goal.overflow-add-result
-overflow-add-result c =
+pub overflow_add-result : goal.overflow_add-result
+overflow_add-result c =
     let file = c.args.file.now in
     let part = part_is file c.args.slip.now c.requires.read c.args.i c.section.result c.unwrap-part.result c.section.ensures.part c.unwrap-part.ensures in
     let end = part_end file c.args.slip.now c.requires.read c.args.i c.requires.there in

@@ -4,14 +4,14 @@ use Rattle.key.proofs.Bytes.{filled_more, filled_all}
 use Rattle.key.proofs.Rows.{length_starred, entry_fits, entry_narrow, entry_stored}
 use Rattle.key.proofs.form.make.row.Goals as goal
 
-pub overflow-add-entry : goal.overflow-add-entry
-overflow-add-entry c =
+pub overflow_add-entry : goal.overflow_add-entry
+overflow_add-entry c =
     entry_fits c.args.a.now c.args.b.now c.args.c.now c.args.d.now c.requires.elements c.star.new.out c.widen.new.words c.star-2.new.out c.widen-2.new.words
     c.star.ensures c.widen.ensures c.star-2.ensures c.widen-2.ensures c.loop-k.k c.loop-k-test.true c.coefficient.result c.coefficient-in-loop-k.result
     (record { sfits = c.coefficient.type_inv }) (record { sfits = c.coefficient-in-loop-k.type_inv }) c.coefficient.ensures c.coefficient-in-loop-k.ensures
 
-pub overflow-cast-numbers : goal.overflow-cast-numbers
-overflow-cast-numbers c =
+pub overflow_cast-numbers : goal.overflow_cast-numbers
+overflow_cast-numbers c =
     entry_narrow c.args.a.now c.args.b.now c.args.c.now c.args.d.now c.requires.elements c.star.new.out c.widen.new.words c.star-2.new.out c.widen-2.new.words
     c.star.ensures c.widen.ensures c.star-2.ensures c.widen-2.ensures c.loop-k.k c.loop-k-test.true c.coefficient.result c.coefficient-in-loop-k.result
     (record { sfits = c.coefficient.type_inv }) (record { sfits = c.coefficient-in-loop-k.type_inv }) c.coefficient.ensures c.coefficient-in-loop-k.ensures

@@ -13,25 +13,22 @@ is_one xs e = ap (front One) e ∙ front_constant (pos 1)
 is_zero : (xs : List ℤ) → xs ≡ replicate room_of (pos 0) → front One xs ≡ constant 4 (pos 0)
 is_zero xs e = ap (front One) e ∙ front_blank
 
-pub invariant-of-result : goal.invariant-of-result
+pub invariant_of-result : goal.invariant_of-result
 unfolding resting_basis
-invariant-of-result c =
+invariant_of-result c =
     let f = is_one c.constant.result c.constant.ensures in
     let g = is_one c.constant-2.result c.constant-2.ensures in
     let F = is_zero c.blank.result c.blank.ensures in
-    let G = is_one c.constant-3.result c.constant-3.ensures in (
-      ap (all_within key_limit) f ∙ one_small,
-      (
-        ap (all_within key_limit) g ∙ one_small,
-        (
-          ap (all_within key_limit) F ∙ zero_small,
-          (
-            ap (all_within key_limit) G ∙ one_small,
-            (ap (λ xs. odd (total xs)) f ∙ one_odd, (ap (λ xs. odd (total xs)) g ∙ one_odd, (rw (f, g, F, G) resting_determinant, tt))),
-          ),
-        ),
-      ),
-    )
+    let G = is_one c.constant-3.result c.constant-3.ensures in
+    record {
+      small_f = ap (all_within key_limit) f ∙ one_small;
+      small_g = ap (all_within key_limit) g ∙ one_small;
+      small_cap_f = ap (all_within key_limit) F ∙ zero_small;
+      small_cap_g = ap (all_within key_limit) G ∙ one_small;
+      odd_f = ap (λ xs. odd (total xs)) f ∙ one_odd;
+      odd_g = ap (λ xs. odd (total xs)) g ∙ one_odd;
+      unit_determinant = rw (f, g, F, G) resting_determinant;
+    }
 
 pub returns : goal.returns
 unfolding resting_basis

@@ -20,21 +20,18 @@ stored-requires-3 c = omega (arith, length_numbers8 c.args.cap_f.now, c.requires
 pub stored-requires-4 : goal.stored-requires-4
 stored-requires-4 c = omega (arith, length_numbers8 c.args.cap_g.now, c.requires.words.G_words.few)
 
-pub invariant-of-result : goal.invariant-of-result
-invariant-of-result c =
+pub invariant_of-result : goal.invariant_of-result
+invariant_of-result c =
     let f = ap (front c.args.class) c.stored.ensures ∙ front_padded c.args.class (numbers8 c.args.f.now) c.requires.size in
     let g = ap (front c.args.class) c.stored-2.ensures ∙ front_padded c.args.class (numbers8 c.args.g.now) (c.requires.words.g_long ∙ c.requires.size) in
     let F = ap (front c.args.class) c.stored-3.ensures ∙ front_padded c.args.class (numbers8 c.args.cap_f.now) (c.requires.words.F_long ∙ c.requires.size) in
-    let G = ap (front c.args.class) c.stored-4.ensures ∙ front_padded c.args.class (numbers8 c.args.cap_g.now) (c.requires.words.G_long ∙ c.requires.size) in (
-      ap (all_within key_limit) f ∙ c.requires.words.f_words.small,
-      (
-        ap (all_within key_limit) g ∙ c.requires.words.g_words.small,
-        (
-          ap (all_within key_limit) F ∙ c.requires.words.F_words.small,
-          (
-            ap (all_within key_limit) G ∙ c.requires.words.G_words.small,
-            (ap (λ xs. odd (total xs)) f ∙ c.requires.f_odd, (ap (λ xs. odd (total xs)) g ∙ c.requires.g_odd, (rw (f, g, F, G) c.requires.unit_determinant, tt))),
-          ),
-        ),
-      ),
-    )
+    let G = ap (front c.args.class) c.stored-4.ensures ∙ front_padded c.args.class (numbers8 c.args.cap_g.now) (c.requires.words.G_long ∙ c.requires.size) in
+    record {
+      small_f = ap (all_within key_limit) f ∙ c.requires.words.f_words.small;
+      small_g = ap (all_within key_limit) g ∙ c.requires.words.g_words.small;
+      small_cap_f = ap (all_within key_limit) F ∙ c.requires.words.F_words.small;
+      small_cap_g = ap (all_within key_limit) G ∙ c.requires.words.G_words.small;
+      odd_f = ap (λ xs. odd (total xs)) f ∙ c.requires.f_odd;
+      odd_g = ap (λ xs. odd (total xs)) g ∙ c.requires.g_odd;
+      unit_determinant = rw (f, g, F, G) c.requires.unit_determinant;
+    }

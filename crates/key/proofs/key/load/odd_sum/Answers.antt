@@ -7,8 +7,8 @@ use Rattle.key.proofs.key.load.odd_sum.Goals as goal
 pub loop-i-init : goal.loop-i-init
 loop-i-init c = (sym (total_none c.args.numbers.now), omega arith)
 
-pub overflow-add-sum : goal.overflow-add-sum
-overflow-add-sum c =
+pub overflow_add-sum : goal.overflow_add-sum
+overflow_add-sum c =
     let xs = c.args.numbers.now in
     sum_fits key_limit xs c.loop-i.i _ (bounded_from key_limit xs c.requires.small) c.requires.few (lit≤ tt) c.loop-i-test.true c.loop-i.invariant.0 c.loop-i.invariant.1
 
