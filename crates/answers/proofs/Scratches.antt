@@ -1,5 +1,5 @@
 -- A scratch of the right length, and what is written then.
-use Rattle.std.proofs.Common.{◌≡◌, ℕ, ◌*◌, true, List, [], ◌∷◌, ◌++◌, Some, None, Option, sym, refl, ap, ◌∙◌, arith}
+use Rattle.std.proofs.Common.{◌≡◌, ℕ, ◌*◌, List, [], ◌∷◌, ◌++◌, Some, None, Option, sym, refl, ap, ◌∙◌, arith}
 use Rattle.std.proofs.lemmas.Bool.{eqb-true, eq-eqb}
 use Rattle.ring.specs.Classes.{size_of}
 use Rattle.ring.specs.Faults.{first_failing}
@@ -10,7 +10,7 @@ use Rattle.scheme.specs.Keys.{Gram, form_of}
 use Rattle.slip.specs.Slips.{slip_tests, class_named, size_named}
 use Rattle.slip.specs.declared.kind.Kind.TheVariants.{Key}
 use Rattle.key.specs.Loading.{basis_in, scratch_test, body_tests, key_tests}
-use Rattle.answers.specs.Lines.{form_line, form_line_of, refusal_line, line_or, measure_line}
+use Rattle.answers.specs.Lines.{form_line, refusal_line, measure_line}
 
 pub size_is : (file : List ℕ) (class : Class) → class_named file ≡ Some class → size_named file ≡ size_of class
 unfolding size_named

@@ -1,4 +1,6 @@
 // What the programs answer, as text.
+#![tactic(auto)]
+
 mod form;
 mod refusal;
 

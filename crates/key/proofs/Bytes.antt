@@ -1,6 +1,6 @@
 -- Signed bytes, place by place.
-use Rattle.std.proofs.Common.{◌≡◌, ℕ, suc, ◌+◌, ◌-◌, ◌<◌, ◌≤◌, List, [], ◌∷◌, ◌++◌, map, length, get_or, take, set, replicate, ℤ, pos, sym, refl, ap, ◌∙◌, arith, w8, to_z}
-use Rattle.std.proofs.lemmas.List.{get_or-map, length-map, take_more, take_more_set, take_all, set_at, length-take-le, append_assoc, append-nil}
+use Rattle.std.proofs.Common.{◌≡◌, ℕ, suc, ◌+◌, ◌-◌, ◌<◌, ◌≤◌, List, [], ◌∷◌, ◌++◌, length, get_or, take, set, replicate, ℤ, pos, sym, ap, ◌∙◌, arith, w8, to_z}
+use Rattle.std.proofs.lemmas.List.{get_or-map, length-map, take_more, take_more_set, take_all, set_at, length-take-le, append_assoc}
 use Rattle.slip.specs.Numbers.{numbers8}
 use Rattle.key.specs.Stored.{padded, room_of}
 

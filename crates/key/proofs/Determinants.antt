@@ -4,7 +4,7 @@ use mir.Syntax.{Width}
 use Rattle.std.specs.List.{prefix_len}
 use Rattle.std.proofs.lemmas.Int.{to_z-of_z}
 use Rattle.std.proofs.lemmas.Bool.{ne_eqb}
-use Rattle.ring.specs.Elements.{coefficient, product, difference, constant}
+use Rattle.ring.specs.Elements.{coefficient, product, constant}
 use Rattle.ring.specs.Kinds.{rest, values, word_value}
 use Rattle.ring.proofs.Exact.{exact_coefficient}
 use Rattle.ring.proofs.Places.{product_at, length_product, difference_at, length_difference, length_constant, constant_first, constant_other}

@@ -1,9 +1,9 @@
 -- Coefficients of a*·b + c*·d, in words.
-use Rattle.std.proofs.Common.{◌≡◌, ℕ, ◌+◌, ◌*◌, ◌^◌, ◌<◌, ◌≤◌, true, ◌&&◌, eqb, List, [], ◌∷◌, map, reverse, length, get_or, ℤ, pos, ◌+ℤ◌, neg_ℤ, nat_abs, None, Result, sym, refl, ap, ◌∙◌, arith, w32, w64, SFits, to_z, of_z}
+use Rattle.std.proofs.Common.{◌≡◌, ℕ, ◌^◌, ◌<◌, ◌≤◌, true, List, [], ◌∷◌, map, reverse, length, get_or, ℤ, pos, ◌+ℤ◌, neg_ℤ, nat_abs, None, Result, sym, ap, ◌∙◌, arith, w32, w64, SFits, to_z, of_z}
 use Rattle.std.proofs.lemmas.Int.{to_z-of_z}
 use Rattle.std.proofs.lemmas.Bool.{eq-eqb}
 use Rattle.ring.specs.Calls.{of_class, length_test2}
-use Rattle.ring.specs.Elements.{coefficient, product, sum, adjoint}
+use Rattle.ring.specs.Elements.{coefficient, product, adjoint}
 use Rattle.ring.specs.Faults.{first_failing, Answers, ring_fault}
 use Rattle.ring.specs.Kinds.{rest, values, word_value}
 use Rattle.ring.specs.declared.fault.RingFault.{RingFault}

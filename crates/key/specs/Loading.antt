@@ -1,5 +1,5 @@
 -- Loading a key slip: the basis that a file holds, and the tests in their order. Assumes nothing.
-use Rattle.std.specs.Prelude.{◌≡◌, ℕ, ◌+◌, ◌*◌, Bool, true, List, [], ◌∷◌, ◌++◌, length, ℤ, pos, Some, ◌==◌, unsigned_abs}
+use Rattle.std.specs.Prelude.{◌≡◌, ℕ, ◌+◌, ◌*◌, Bool, true, List, [], ◌∷◌, ◌++◌, ℤ, pos, Some, ◌==◌, unsigned_abs}
 use Rattle.std.specs.List.{prefix_len}
 use Rattle.ring.specs.Elements.{difference, constant, total}
 use Rattle.ring.specs.declared.class.Class.{Class}

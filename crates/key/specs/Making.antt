@@ -3,7 +3,7 @@ use Rattle.std.specs.Prelude.{◌≡◌, true, List, length, ℤ}
 use Rattle.ring.specs.Calls.{of_class}
 use Rattle.ring.specs.Classes.{size_of}
 use Rattle.ring.specs.Elements.{adjoint, product, sum}
-use Rattle.scheme.specs.Keys.{Basis, IsKey, IsForm, form_of, Gram}
+use Rattle.scheme.specs.Keys.{Basis, IsKey, IsForm, form_of}
 use Rattle.algebra.specs.Counting.{FormBelongs}
 use Rattle.algebra.specs.Isometries.{Joined}
 use Rattle.key.specs.Gramheld.{gram_of}

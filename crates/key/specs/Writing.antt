@@ -1,5 +1,5 @@
 -- Key and form slips as they are written, and what they read as. Assumes nothing.
-use Rattle.std.specs.Prelude.{◌≡◌, ℕ, ◌+◌, ◌*◌, List, [], ◌∷◌, ◌++◌, Some, None}
+use Rattle.std.specs.Prelude.{◌≡◌, ℕ, ◌*◌, List, [], ◌∷◌, ◌++◌, Some, None}
 use Rattle.std.specs.List.{flat_map}
 use Rattle.ring.specs.Classes.{size_of}
 use Rattle.ring.specs.Faults.{first_failing}

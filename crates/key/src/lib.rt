@@ -1,4 +1,6 @@
 // Keys and forms in fixed memory, and the scratch that their calls are lent.
+#![tactic(auto)]
+
 mod fault;
 mod form;
 mod key;

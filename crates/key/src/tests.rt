@@ -57,5 +57,6 @@ fn turned_key(rt: HostRuntime) {
     assert!(rt; key.make_form(&mut form, &mut scratch[0..15]).is_err());
     assert!(rt; key.make_form(&mut form, &mut scratch).is_ok());
     assert_eq!(rt; form.constants(), (2, 1, 1));
-    assert_eq!(rt; form.q01[1], 0);
+    let second = form.q01[1];
+    assert_eq!(rt; second, 0);
 }

@@ -1,4 +1,6 @@
 // Reads a key slip from standard input and writes the constants of its form.
+#![tactic(auto)]
+
 use answers::measure;
 use std::io;
 use std::io::Read;

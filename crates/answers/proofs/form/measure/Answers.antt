@@ -1,4 +1,4 @@
-use Rattle.std.proofs.Common.{◌≡◌, ◌-◌, ◌*◌, length, take, None, string_bytes, sym, ap, ◌∙◌, arith}
+use Rattle.std.proofs.Common.{◌≡◌, ◌-◌, ◌*◌, length, take, None, string_bytes, ap, ◌∙◌, arith}
 use Rattle.std.proofs.lemmas.Result.{IfOk-weaker}
 use Rattle.ring.proofs.Sums.{cut_take}
 use Rattle.ring.specs.Faults.{first_failing}
@@ -21,6 +21,6 @@ pub returns : goal.returns
 returns c =
     let file = take (c.min.result - 0) c.args.input.now in
     let cut : file ≡ take file_limit c.args.input.now = cut_take c.args.input.now c.min.result file_limit (omega (arith, c.min.ensures)) in
-    let right : first_failing (slip_tests Key file) ≡ None → length c.as_mut_slice.result.now ≡ 4 * size_named file = λ h. omega (arith, c.as_mut_slice.ensures.len, c.in-ok_words.ensures.made, c.size_named.ensures.known h) in
+    let right : first_failing (slip_tests Key file) ≡ None → length c.as_mut_slice.result.now ≡ 4 * size_named file = λ h. omega (arith, c.as_mut_slice.ensures.len, c.in_ok-words.ensures.len, c.size_named.ensures.known h) in
     IfOk-weaker c.refusal_line.result (λ t. string_bytes t ≡ refusal_line c.into.result) (λ t. string_bytes t ≡ measure_line (take file_limit c.args.input.now))
     (λ t e. e ∙ ap refusal_line c.into.ensures ∙ line_of_refusal file (length c.as_mut_slice.result.now) (key_fault c.in-Err.fault) right c.in-Err.ensures ∙ ap measure_line cut) c.refusal_line.ensures

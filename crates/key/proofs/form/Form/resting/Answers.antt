@@ -1,5 +1,5 @@
-use Rattle.std.proofs.Common.{◌≡◌, List, set, replicate, ℤ, pos, sym, refl, ap, ◌∙◌}
-use Rattle.ring.specs.Elements.{adjoint, constant}
+use Rattle.std.proofs.Common.{◌≡◌, List, set, replicate, ℤ, pos, refl, ap, ◌∙◌}
+use Rattle.ring.specs.Elements.{constant}
 use Rattle.ring.specs.declared.class.Class.TheVariants.{One}
 use Rattle.scheme.specs.Keys.{all_within, form_limit}
 use Rattle.key.specs.Stored.{front, room_of}

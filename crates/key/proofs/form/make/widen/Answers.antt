@@ -1,4 +1,4 @@
-use Rattle.std.proofs.Common.{◌≡◌, get_or, pos, ◌∙◌, arith, w8, w64, SFits, rules}
+use Rattle.std.proofs.Common.{get_or, pos, ◌∙◌, arith, w8, w64, SFits, rules}
 use Rattle.std.proofs.lemmas.Int.{to_z-of_z}
 use Rattle.key.proofs.Bytes.{copied_more, copied_all}
 use Rattle.key.proofs.form.make.widen.Goals as goal

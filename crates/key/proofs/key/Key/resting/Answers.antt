@@ -1,7 +1,7 @@
 use Rattle.std.proofs.Common.{◌≡◌, List, set, replicate, ℤ, pos, refl, ap, ◌∙◌}
 use Rattle.ring.specs.Elements.{constant, total}
 use Rattle.ring.specs.declared.class.Class.TheVariants.{One}
-use Rattle.scheme.specs.Keys.{basis, all_within, odd, determinant, key_limit}
+use Rattle.scheme.specs.Keys.{all_within, odd, key_limit}
 use Rattle.key.specs.Resting.{resting_basis}
 use Rattle.key.specs.Stored.{front, room_of}
 use Rattle.key.proofs.Resting.{front_constant, front_blank, padded_constant, padded_blank, one_small, zero_small, one_odd, resting_determinant}

@@ -1,9 +1,8 @@
-use Rattle.std.proofs.Common.{◌≡◌, ◌≤◌, List, length, ℤ, ap, ◌∙◌, arith}
-use Rattle.ring.specs.Classes.{size_of}
+use Rattle.std.proofs.Common.{ap, ◌∙◌, arith}
 use Rattle.ring.specs.Elements.{total}
 use Rattle.scheme.specs.Keys.{all_within, odd, key_limit}
 use Rattle.slip.specs.Numbers.{numbers8}
-use Rattle.key.specs.Stored.{front, padded}
+use Rattle.key.specs.Stored.{front}
 use Rattle.key.proofs.Body.{front_padded}
 use Rattle.key.proofs.Bytes.{length_numbers8}
 use Rattle.key.proofs.key.load.built.Goals as goal

@@ -1,6 +1,6 @@
 use Rattle.std.proofs.Common.{◌≡◌, ◌+◌, get_or, pos, sym, ap, ◌∙◌, arith, w8, w64, SFits}
 use Rattle.std.proofs.lemmas.Int.{to_z-of_z}
-use Rattle.scheme.specs.Keys.{within, key_limit}
+use Rattle.scheme.specs.Keys.{key_limit}
 use Rattle.slip.specs.Numbers.{numbers8}
 use Rattle.slip.specs.declared.fault.SlipFault.TheVariants.{Range}
 use Rattle.key.proofs.Bytes.{length_numbers8, numbers8_at, copied_more, copied_all}

@@ -1,4 +1,4 @@
-use Rattle.std.proofs.Common.{◌≡◌, ◌-◌, ◌++◌, length, take, replicate, pos}
+use Rattle.std.proofs.Common.{◌≡◌, ◌-◌, ◌++◌, take, replicate, pos}
 use Rattle.slip.specs.Numbers.{numbers8}
 use Rattle.key.specs.Stored.{room_of}
 use Rattle.key.proofs.key.load.stored.Given as goal
