@@ -1,6 +1,6 @@
 -- A signature is accepted exactly when some sample makes the signer issue it, and exactly two do.
 use Rattle.std.proofs.Common.{◌≡◌, ℕ, ◌+◌, ◌*◌, ◌<◌, ◌≤◌, Bool, true, false, not, ◌⊎◌, List, length, ℤ, pos, nat_abs, sym, refl, ap, ◌∙◌, subst, inl, inr, mul-le-mul, arith}
-use Rattle.std.specs.List.{AllByRecursion as All}
+use Rattle.std.specs.List.{AllByRecursion}
 use Rattle.std.proofs.ByRecursion.{All-weaker}
 use Rattle.std.proofs.lemmas.Bool.{cases_lt, leb-true, le-leb}
 use Rattle.ring.specs.Classes.{size_of, bound_of, hash_length_of}
@@ -122,7 +122,7 @@ module _ (class : Class) (b : Basis) (key : IsKey (size_of class) b) (hash : Lis
     minus_is : negative (sample_of class b hash s) ≡ numbers_of (opposite x)
     minus_is = ap negative sample_is ∙ sym (numbers_opposite x)
 
-    fits : All (Within 32767) (numbers_of x)
+    fits : AllByRecursion (Within 32767) (numbers_of x)
     unfolding numbers_of
     fits =
         let total : pos (squares x.first + squares x.second) ≡ pos N = sym (squared_is x) ∙ length_whole x ∙ ap pos length_x in

@@ -1,6 +1,6 @@
 -- Sums of squares, and how large they let the numbers of a matrix times a pair be.
 use Rattle.std.proofs.Common.{◌≡◌, ℕ, ◌+◌, ◌-◌, ◌*◌, ◌≤◌, List, [], ◌∷◌, ◌++◌, reverse, length, take, drop, ℤ, pos, negsuc, ◌*ℤ◌, neg_ℤ, nat_abs, sym, refl, ap, ◌∙◌, subst, inl, inr, mul-le-mul, arith}
-use Rattle.std.specs.List.{range_with_len, AllByRecursion as All}
+use Rattle.std.specs.List.{range_with_len, AllByRecursion}
 use Rattle.std.proofs.ByRecursion.{All-map}
 use Rattle.std.proofs.lemmas.List.{take-append-drop}
 use Rattle.std.proofs.lemmas.Bool.{cases_lt, leb-true}
@@ -85,28 +85,28 @@ coefficient_squares a b k =
     )
 
 -- ---- small numbers have small squares
-pub squares_within : (a : List ℤ) → All (Within key_limit) a → squares a ≤ length a * 16129
+pub squares_within : (a : List ℤ) → AllByRecursion (Within key_limit) a → squares a ≤ length a * 16129
 squares_within [] h = omega arith
 squares_within (x ∷ a) h =
     let small : nat_abs x ≤ 127 = leb-true (nat_abs x) 127 h.0 in
     omega (arith, mul-le-mul small small, squares_within a h.1)
 
-pub square_below : (a : List ℤ) (m : ℕ) → squares a ≤ m → All (λ z. nat_abs z * nat_abs z ≤ m) a
+pub square_below : (a : List ℤ) (m : ℕ) → squares a ≤ m → AllByRecursion (λ z. nat_abs z * nat_abs z ≤ m) a
 square_below [] m h = tt
 square_below (x ∷ a) m h = (omega arith, square_below a m (omega arith))
 
 -- ---- the numbers of a·x + b·y
 module _ (n : ℕ) (a b x y : List ℤ) (few : n ≤ 1024) (long-a : length a ≡ n) (long-b : length b ≡ n)
-    (small-a : All (Within key_limit) a) (small_b : All (Within key_limit) b) (short : squares x + squares y ≤ 20243) where
-  all_coefficients : (c z : List ℤ) (ks : List ℕ) → All (λ k. 64 * nat_abs (coefficient c z k) ≤ squares c + 1024 * squares z) ks
+    (small-a : AllByRecursion (Within key_limit) a) (small_b : AllByRecursion (Within key_limit) b) (short : squares x + squares y ≤ 20243) where
+  all_coefficients : (c z : List ℤ) (ks : List ℕ) → AllByRecursion (λ k. 64 * nat_abs (coefficient c z k) ≤ squares c + 1024 * squares z) ks
   all_coefficients c z [] = tt
   all_coefficients c z (k ∷ ks) = (coefficient_squares c z k, all_coefficients c z ks)
 
-  product_squares : (c z : List ℤ) → All (λ t. 64 * nat_abs t ≤ squares c + 1024 * squares z) (product c z)
+  product_squares : (c z : List ℤ) → AllByRecursion (λ t. 64 * nat_abs t ≤ squares c + 1024 * squares z) (product c z)
   unfolding product
   product_squares c z = All-map _ (coefficient c z) (range_with_len 0 (length c)) (all_coefficients c z (range_with_len 0 (length c)))
 
-  sums : (A B : ℕ) (p q : List ℤ) → A + B ≤ 53761024 → All (λ t. 64 * nat_abs t ≤ A) p → All (λ t. 64 * nat_abs t ≤ B) q → Bounded 840016 (sum p q)
+  sums : (A B : ℕ) (p q : List ℤ) → A + B ≤ 53761024 → AllByRecursion (λ t. 64 * nat_abs t ≤ A) p → AllByRecursion (λ t. 64 * nat_abs t ≤ B) q → Bounded 840016 (sum p q)
   unfolding sum
   sums A B [] q h hp hq = tt
   sums A B (s ∷ p) [] h hp hq = tt

@@ -1,6 +1,6 @@
 -- A signature is accepted exactly when some sample makes the signer issue it, and exactly two do. Assumes nothing.
 use Rattle.std.specs.Prelude.{◌≡◌, ℕ, ◌*◌, ◌≤◌, Bool, true, false, ◌⊎◌, List, [], ◌∷◌, map, length, ℤ, None}
-use Rattle.std.specs.List.{AllByRecursion as All}
+use Rattle.std.specs.List.{AllByRecursion}
 use Rattle.ring.specs.Classes.{size_of, hash_length_of}
 use Rattle.ring.specs.Elements.{negative}
 use Rattle.ring.specs.Faults.{first_failing}
@@ -45,7 +45,7 @@ sample_of class b hash s = numbers_of (applied (basis_of b) (point_of (size_of c
 pub record ExactlyTwo (class : Class) (b : Basis) (log : List ℕ) (hash : List ℕ) (area s : List ℤ) (N : ℕ) : Type 0 where
   pub kept : Issues class b log hash area (sample_of class b hash s) s N false
   pub changed : Issues class b log hash area (negative (sample_of class b hash s)) s N true
-  pub in_range : All (Within 32767) (sample_of class b hash s)
+  pub in_range : AllByRecursion (Within 32767) (sample_of class b hash s)
   pub apart : sample_of class b hash s ≡ negative (sample_of class b hash s) → ⊥
   pub no_other : (x : List ℤ) (M : ℕ) (c : Bool) → Issues class b log hash area x s M c
       → (x ≡ sample_of class b hash s) ⊎ (x ≡ negative (sample_of class b hash s))

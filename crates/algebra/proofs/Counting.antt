@@ -2,7 +2,7 @@
 use Rattle.std.proofs.Common.{◌≡◌, ℕ, zero, suc, ◌+◌, ◌-◌, ◌*◌, ◌<◌, ◌≤◌, true, eqb, ◌⊎◌, List, [], ◌∷◌, ◌++◌, length, ℤ, pos, ◌+ℤ◌, neg_ℤ, sym, refl, ap, ◌∙◌, inl, inr, arith}
 use lib.IntN.{+ℤ_comm, +ℤ_assoc, neg_ℤ-+ℤ}
 use borrow.Author.Differences.{up, down, neg_is}
-use Rattle.std.specs.List.{AllByRecursion as All}
+use Rattle.std.specs.List.{AllByRecursion}
 use Rattle.std.proofs.lemmas.Bool.{cases_lt, lt-ltb, le-ltb}
 use Rattle.ring.specs.Elements.{negative, difference, turned, constant, total}
 use Rattle.ring.specs.Kinds.{rest}
@@ -26,11 +26,11 @@ use Rattle.algebra.proofs.Bridges.{mat_of, key_size, det_is, same_grams}
 use Rattle.algebra.proofs.Siblings.{rows, crossed_rows, det_rows, det_crossed, gram_rows, gram_crossed, rows_apart, crossed_apart, kinds_apart, all_among}
 
 -- ---- small numbers and odd sums
-all_ended : (P : ℤ → Type 0) (u : List ℤ) (x : ℤ) → All P (u ++ x ∷ []) → P x × All P u
+all_ended : (P : ℤ → Type 0) (u : List ℤ) (x : ℤ) → AllByRecursion P (u ++ x ∷ []) → P x × AllByRecursion P u
 all_ended P [] x h = (h.0, tt)
 all_ended P (y ∷ u) x h = let t = all_ended P u x h.1 in (t.0, (h.0, t.1))
 
-within_powered : (n m k : ℕ) (a : List ℤ) → length a ≡ suc m → All (Within n) a → All (Within n) (powered k a)
+within_powered : (n m k : ℕ) (a : List ℤ) → length a ≡ suc m → AllByRecursion (Within n) a → AllByRecursion (Within n) (powered k a)
 within_powered n m zero a e h = rw (powered_zero a) h
 within_powered n m (suc k) a e h =
     let s = ended (powered k a) m (length_powered k a ∙ e) in

@@ -1,6 +1,6 @@
 -- A written form slip loads as what was written.
 use Rattle.std.proofs.Common.{◌≡◌, ℕ, ◌*◌, ◌<◌, true, List, [], ◌∷◌, length, get_or, ℤ, None, sym, refl, ap, ◌∙◌, lit<}
-use Rattle.std.specs.List.{AllByRecursion as All}
+use Rattle.std.specs.List.{AllByRecursion}
 use Rattle.std.proofs.lemmas.Bool.{eq-eqb}
 use Rattle.ring.specs.Classes.{size_of}
 use Rattle.ring.specs.Elements.{adjoint}
@@ -38,7 +38,7 @@ module _ (class : Class) (q : Gram) (file : List ℕ) (is : file ≡ form_slip c
   long32 : (xs : List ℤ) → Reads32 class xs → length (bytes32 xs) ≡ part_of Form (size_of class)
   long32 xs r = length_bytes32 xs ∙ ap (λ n. 4 * n) r.size
 
-  all32 : All (λ l. length l ≡ part_of Form (size_of class)) parts32
+  all32 : AllByRecursion (λ l. length l ≡ part_of Form (size_of class)) parts32
   unfolding parts32
   all32 = (long32 q.q00 q00, (long32 q.q01 q01, (long32 q.q11 q11, tt)))
 

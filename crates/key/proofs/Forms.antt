@@ -1,6 +1,6 @@
 -- What is known of a key in memory and of its form.
 use Rattle.std.proofs.Common.{◌≡◌, ℕ, true, List, [], ◌∷◌, length, ℤ, sym, refl, ap, ◌∙◌}
-use Rattle.std.specs.List.{AllByRecursion as All}
+use Rattle.std.specs.List.{AllByRecursion}
 use Rattle.std.proofs.lemmas.Bool.{and_from}
 use Rattle.ring.specs.Classes.{size_of}
 use Rattle.ring.specs.Elements.{adjoint}
@@ -17,7 +17,7 @@ use Rattle.key.proofs.Body.{front_padded}
 use Rattle.key.proofs.Ranges.{all_from}
 use Rattle.key.proofs.Sections.{size_room}
 
-pub all_back : (m : ℕ) (xs : List ℤ) → All (Within m) xs → all_within m xs ≡ true
+pub all_back : (m : ℕ) (xs : List ℤ) → AllByRecursion (Within m) xs → all_within m xs ≡ true
 all_back m [] h = refl
 all_back m (x ∷ xs) h = and_from (within m x) (all_within m xs) h.0 (all_back m xs h.1)
 
@@ -64,7 +64,7 @@ unfolding starred form_of
 q11_is b = refl
 
 -- an element in memory that holds q
-pub stored_small : (class : Class) (memory q : List ℤ) → memory ≡ padded q → length q ≡ size_of class → All (Within form_limit) q → all_within form_limit (front class memory) ≡ true
+pub stored_small : (class : Class) (memory q : List ℤ) → memory ≡ padded q → length q ≡ size_of class → AllByRecursion (Within form_limit) q → all_within form_limit (front class memory) ≡ true
 stored_small class memory q e size small = ap (λ xs. all_within form_limit (front class xs)) e ∙ ap (all_within form_limit) (front_padded class q size) ∙ all_back form_limit q small
 
 pub stored_selfadjoint : (class : Class) (memory q : List ℤ) → memory ≡ padded q → length q ≡ size_of class → q ≡ adjoint q → front class memory ≡ adjoint (front class memory)

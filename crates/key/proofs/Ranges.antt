@@ -1,6 +1,6 @@
 -- Numbers within a limit, one place at a time.
 use Rattle.std.proofs.Common.{◌≡◌, ℕ, ◌+◌, ◌<◌, ◌≤◌, true, false, ◌&&◌, List, [], ◌∷◌, length, get_or, drop, ℤ, pos, negsuc, nat_abs, sym, refl, ap, ◌∙◌, arith, w8, SFits, of_z}
-use Rattle.std.specs.List.{prefix_len, AllByRecursion as All}
+use Rattle.std.specs.List.{prefix_len, AllByRecursion}
 use Rattle.std.proofs.lemmas.List.{at_drop_more, at_drop_all}
 use Rattle.std.proofs.lemmas.List.Sums.{prefix_len-drop_yes, prefix_len-drop_no}
 use Rattle.std.proofs.lemmas.Bool.{le-leb, lt-leb, leb-true, and_parts, and_from, and_left}
@@ -15,7 +15,7 @@ pub bounded_all : (m : ℕ) (xs : List ℤ) → Bounded m xs → all_within m xs
 bounded_all m [] h = refl
 bounded_all m (x ∷ xs) h = and_from (within m x) (all_within m xs) (le-leb (nat_abs x) m h.0) (bounded_all m xs h.1)
 
-pub all_from : (m : ℕ) (xs : List ℤ) → all_within m xs ≡ true → All (Within m) xs
+pub all_from : (m : ℕ) (xs : List ℤ) → all_within m xs ≡ true → AllByRecursion (Within m) xs
 all_from m [] h = tt
 all_from m (x ∷ xs) h = let p = and_parts (within m x) (all_within m xs) h in (p.0, all_from m xs p.1)
 

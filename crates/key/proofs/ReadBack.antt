@@ -1,6 +1,6 @@
 -- Written slips load as what was written.
 use Rattle.std.proofs.Common.{◌≡◌, ℕ, ◌*◌, ◌<◌, true, List, [], ◌∷◌, length, get_or, ℤ, pos, None, sym, refl, ap, ◌∙◌, arith, lit<}
-use Rattle.std.specs.List.{prefix_len, AllByRecursion as All}
+use Rattle.std.specs.List.{prefix_len, AllByRecursion}
 use Rattle.std.proofs.lemmas.Bool.{eq-eqb}
 use Rattle.ring.specs.Classes.{size_of}
 use Rattle.ring.specs.Elements.{total, difference, constant, adjoint}
@@ -51,7 +51,7 @@ module _ (class : Class) (b : Basis) (file : List ℕ) (is : file ≡ key_slip c
   long8 : (xs : List ℤ) → Reads8 class xs → length (bytes8 xs) ≡ part_of Key (size_of class)
   long8 xs r = length_bytes8 xs ∙ r.size ∙ omega arith
 
-  all8 : All (λ l. length l ≡ part_of Key (size_of class)) parts8
+  all8 : AllByRecursion (λ l. length l ≡ part_of Key (size_of class)) parts8
   unfolding parts8
   all8 = (long8 b.f f, (long8 b.g g, (long8 b.F F, (long8 b.G G, tt))))
 
@@ -105,7 +105,7 @@ module _ (class : Class) (q : Gram) (file : List ℕ) (is : file ≡ form_slip c
   long32 : (xs : List ℤ) → Reads32 class xs → length (bytes32 xs) ≡ part_of Form (size_of class)
   long32 xs r = length_bytes32 xs ∙ ap (λ n. 4 * n) r.size
 
-  all32 : All (λ l. length l ≡ part_of Form (size_of class)) parts32
+  all32 : AllByRecursion (λ l. length l ≡ part_of Form (size_of class)) parts32
   unfolding parts32
   all32 = (long32 q.q00 q00, (long32 q.q01 q01, (long32 q.q11 q11, tt)))
 

@@ -1,6 +1,6 @@
 -- Slips that are written part by part.
 use Rattle.std.proofs.Common.{◌≡◌, ℕ, ◌+◌, ◌-◌, ◌*◌, ◌<◌, ◌≤◌, true, leb, List, [], ◌∷◌, ◌++◌, length, get_or, IfOk, None, Result, sym, ap, ◌∙◌, arith, length-append}
-use Rattle.std.specs.List.{flat_map, AllByRecursion as All}
+use Rattle.std.specs.List.{flat_map, AllByRecursion}
 use Rattle.std.proofs.lemmas.List.{append_assoc, append-nil}
 use Rattle.std.proofs.lemmas.Result.{IfOk-at_ok}
 use Rattle.std.proofs.lemmas.Bool.{le-leb, or_right}
@@ -62,7 +62,7 @@ module _ (p : ℕ) (a b c area a1 a2 a3 : List ℕ) (la : length a ≡ p) (lb : 
 
 -- a file that is a body of equal parts and a trailer
 module _ (kind : Kind) (class : Class) (parts : List (List ℕ)) (file : List ℕ) (is : file ≡ flat_map (λ l. l) parts ++ trailer_of kind class)
-    (all : All (λ l. length l ≡ part_of kind (size_of class)) parts) (count : length parts ≡ sections_of kind) where
+    (all : AllByRecursion (λ l. length l ≡ part_of kind (size_of class)) parts) (count : length parts ≡ sections_of kind) where
   long : length file ≡ body_of kind class + 8
   long =
       ap length is

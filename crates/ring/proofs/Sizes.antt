@@ -2,14 +2,14 @@
 use Rattle.std.proofs.Common.{◌≡◌, ℕ, suc, ◌+◌, ◌*◌, ◌^◌, ◌<◌, ◌≤◌, List, [], ◌∷◌, map, reverse, length, take, drop, ℤ, pos, negsuc, ◌+ℤ◌, ◌*ℤ◌, neg_ℤ, nat_abs, sym, refl, ap, ◌∙◌, add-mul, mul-le-mul, arith, w32, w64, SFits}
 use mathlib.Core.List.{reverse-cons}
 use borrow.Author.Differences.{abs_is, sum_is_lem, neg_is}
-use Rattle.std.specs.List.{AllByRecursion as All}
+use Rattle.std.specs.List.{AllByRecursion}
 use Rattle.std.proofs.lemmas.List.{length-append, take-append-drop}
 use Rattle.std.proofs.ByRecursion.{All-take, All-drop, All-push}
 use Rattle.ring.specs.Elements.{dot, crossed, coefficient, adjoint}
 
 -- the numbers of a list are at most m in size
 abbrev pub Bounded : ℕ → List ℤ → Type 0
-Bounded m xs = All (λ z. nat_abs z ≤ m) xs
+Bounded m xs = AllByRecursion (λ z. nat_abs z ≤ m) xs
 
 pub abs_sum : (x y : ℤ) → nat_abs (x +ℤ y) ≤ nat_abs x + nat_abs y
 abs_sum x y = omega (arith, abs_is (x +ℤ y), abs_is x, abs_is y, sum_is_lem x y)

@@ -1,6 +1,6 @@
 -- A hash's bits determine its bytes, and so does a sample in the coset of the hash.
 use Rattle.std.proofs.Common.{◌≡◌, ℕ, zero, suc, ◌+◌, ◌-◌, ◌*◌, ◌/◌, ◌%◌, ◌^◌, ◌<◌, List, map, length, get_or, pos, sym, refl, ap, ◌∙◌, inl, inr, mod-lt, mod-eq_of_lt, one-add, arith}
-use Rattle.std.specs.List.{range_with_len, AllByRecursion as All}
+use Rattle.std.specs.List.{range_with_len, AllByRecursion}
 use Rattle.std.proofs.lemmas.Nat.{mod-pow-add, div-mul-add, mod-mul-add}
 use Rattle.std.proofs.lemmas.List.FromFn.{length-map-range_with_len, get_or-map-range_with_len}
 use Rattle.std.proofs.ByRecursion.{All-get_or}
@@ -42,7 +42,7 @@ same_bits n g h e i l = elim (cases_lt i n) [
       ∙ bit_read h n n (i - n) (omega arith) ∙ ap (bit_at h) (omega arith)
 ]
 
-pub same_bytes : (n : ℕ) (g h : List ℕ) → length g * 8 ≡ 2 * n → length g ≡ length h → All (λ byte. byte < 256) g → All (λ byte. byte < 256) h
+pub same_bytes : (n : ℕ) (g h : List ℕ) → length g * 8 ≡ 2 * n → length g ≡ length h → AllByRecursion (λ byte. byte < 256) g → AllByRecursion (λ byte. byte < 256) h
     → Congruent 2 (hash_pair n g) (hash_pair n h) → g ≡ h
 unfolding bit_at
 same_bytes n g h long same p q e =

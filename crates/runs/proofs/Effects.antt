@@ -1,7 +1,7 @@
 -- What one call does to a session: a signature of the standing hash from a sample that passed its tests, with one
 -- more entry, or no signature and the same entries.
 use Rattle.std.proofs.Common.{◌≡◌, ℕ, zero, suc, ◌*◌, ◌<◌, Bool, true, false, cond, ◌⊎◌, List, [], ◌∷◌, ◌++◌, length, drop, ℤ, is_some, Some, None, Option, unwrap_or, refl, inl, inr, arith}
-use Rattle.std.specs.List.{AllByRecursion as All}
+use Rattle.std.specs.List.{AllByRecursion}
 use Rattle.std.proofs.lemmas.Bool.{eqb-true, and_parts, not-true}
 use Rattle.ring.specs.Classes.{size_of, hash_length_of}
 use Rattle.ring.specs.Faults.{Test, first_failing}
@@ -18,12 +18,12 @@ use Rattle.runs.specs.Issued.{Given, Issue, issue_at}
 -- the hash of a standing order: of the class's length, and in none of the entries
 abbrev pub Standing : Class → List (List ℕ) → Option (List ℕ) → Type 0
 Standing class entries None = Unit {0}
-Standing class entries (Some hash) = (length hash ≡ hash_length_of class) × All (λ byte. byte < 256) hash × (listed entries hash ≡ false)
+Standing class entries (Some hash) = (length hash ≡ hash_length_of class) × AllByRecursion (λ byte. byte < 256) hash × (listed entries hash ≡ false)
 
 -- a signature made of a sample that passed its tests
 pub record Proper (class : Class) (b : Basis) (issue : Issue) : Type 0 where
   pub hash_length : length issue.hash ≡ hash_length_of class
-  pub hash_bytes : All (λ byte. byte < 256) issue.hash
+  pub hash_bytes : AllByRecursion (λ byte. byte < 256) issue.hash
   pub sample_length : length issue.sample ≡ 2 * size_of class
   pub passes : first_failing (sample_tests class b (hash_pair (size_of class) issue.hash) (pair_from (size_of class) issue.sample)) ≡ None
   pub signature_is : issue.signature ≡ numbers_of (signature_of b (hash_pair (size_of class) issue.hash) (pair_from (size_of class) issue.sample))
@@ -44,7 +44,7 @@ first_passed true o f h = (refl, h)
 first_passed false o f h = let z : ◌≡◌ {A = ℕ} 0 1 = cc in absurd (omega arith)
 
 -- where no test fails, each passes, and none of those behind the first k fails
-pub all_passed : (ts : List Test) → first_failing ts ≡ None → All (λ t. t.passes ≡ true) ts
+pub all_passed : (ts : List Test) → first_failing ts ≡ None → AllByRecursion (λ t. t.passes ≡ true) ts
 all_passed [] h = tt
 all_passed (t ∷ ts) h = let p = first_passed t.passes (first_failing ts) t.refusal h in (p.0, all_passed ts p.1)
 
@@ -65,7 +65,7 @@ module _ (class : Class) (b : Basis) (s : State) (sound : Standing class s.entri
   refusal_effect (withdraw order) f = record { standing = sound; issuing = inl (refl, refl) }
   refusal_effect count f = record { standing = sound; issuing = inl (refl, refl) }
 
-  announced : (hash : List ℕ) → All (λ byte. byte < 256) hash → first_failing (announce_tests class s hash) ≡ None → Standing class s.entries (Some hash)
+  announced : (hash : List ℕ) → AllByRecursion (λ byte. byte < 256) hash → first_failing (announce_tests class s hash) ≡ None → Standing class s.entries (Some hash)
   unfolding announce_tests
   announced hash g h =
       let p = all_passed (announce_tests class s hash) h in

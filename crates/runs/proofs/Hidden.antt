@@ -1,6 +1,6 @@
 -- Two sessions on two keys with one form show the same after each call, and so after every list of calls.
 use Rattle.std.proofs.Common.{◌≡◌, ℕ, ◌*◌, Bool, true, false, eqb, List, [], ◌∷◌, map, length, drop, ℤ, Some, None, Option, sym, refl, ap, inl, inr, arith}
-use Rattle.std.specs.List.{AllZip, AllByRecursion as All}
+use Rattle.std.specs.List.{AllZip, AllByRecursion}
 use Rattle.std.proofs.lemmas.Bool.{eqb-true, cases_Bool}
 use Rattle.ring.specs.Classes.{size_of, hash_length_of}
 use Rattle.ring.specs.Faults.{first_failing}
@@ -173,7 +173,7 @@ module _ (class : Class) (b b' : Basis) (key : IsKey (size_of class) b) (j : Joi
   given_moved (withdraw order) h = h
   given_moved count h = h
 
-  all_given : (calls : List Call) → All Given calls → All Given (map (paired size j.by) calls)
+  all_given : (calls : List Call) → AllByRecursion Given calls → AllByRecursion Given (map (paired size j.by) calls)
   all_given [] h = tt
   all_given (call ∷ calls) h = (given_moved call h.0, all_given calls h.1)
 

@@ -1,6 +1,6 @@
 -- Every run of a session is lawful.
 use Rattle.std.proofs.Common.{◌≡◌, ℕ, ◌*◌, false, List, [], ◌∷◌, ◌++◌, map, ℤ, None, sym, refl, ap, ◌∙◌, inl, inr}
-use Rattle.std.specs.List.{AllByRecursion as All}
+use Rattle.std.specs.List.{AllByRecursion}
 use Rattle.std.specs.Str.{bytes_eq}
 use Rattle.std.proofs.ByRecursion.{All-map, All-weaker}
 use Rattle.std.proofs.lemmas.Slice.Eq.{bytes_eq-Decides}
@@ -47,8 +47,8 @@ samples issues = map (λ i. i.sample) issues
 
 -- the signatures of a run, with the entries before and after it
 record Course (class : Class) (b : Basis) (entries final : List (List ℕ)) (issues : List Issue) : Type 0 where
-  proper : All (Proper class b) issues
-  fresh : All (λ i. listed entries i.hash ≡ false) issues
+  proper : AllByRecursion (Proper class b) issues
+  fresh : AllByRecursion (λ i. listed entries i.hash ≡ false) issues
   differ : Different (hashes issues)
   entries_are : final ≡ entries ++ hashes issues
 
@@ -72,7 +72,7 @@ module _ (class : Class) (b : Basis) where
   joined entries entries' final here issues (inr q) c =
       rw q.1 (more_course entries final q.0 issues q.2 q.3 (rw q.4 at c))
 
-  course : (s : State) → Standing class s.entries s.standing → (calls : List Call) → All Given calls
+  course : (s : State) → Standing class s.entries s.standing → (calls : List Call) → AllByRecursion Given calls
       → Course class b s.entries (entries_after s (run class b s calls)) (issues_of (run class b s calls))
   unfolding run issues_of
   course s sound [] g = record { proper = tt; fresh = tt; differ = tt; entries_are = sym (append-nil s.entries) }
@@ -112,12 +112,12 @@ module _ (class : Class) (b : Basis) (key : IsKey (size_of class) b) where
       same_bytes size i.hash k.hash (ap (λ l. l * 8) p.hash_length ∙ eight_bits class) (p.hash_length ∙ sym q.hash_length) p.hash_bytes q.hash_bytes
       (same_target i.hash k.hash t)
 
-  sample_apart : (i : Issue) (issues : List Issue) → Proper class b i → All (Proper class b) issues → All (λ y. i.hash ≡ y → ⊥) (hashes issues)
-      → All (λ y. i.sample ≡ y → ⊥) (samples issues)
+  sample_apart : (i : Issue) (issues : List Issue) → Proper class b i → AllByRecursion (Proper class b) issues → AllByRecursion (λ y. i.hash ≡ y → ⊥) (hashes issues)
+      → AllByRecursion (λ y. i.sample ≡ y → ⊥) (samples issues)
   sample_apart i [] p q h = tt
   sample_apart i (k ∷ issues) p q h = (λ e. h.0 (same_hash i k p q.0 e), sample_apart i issues p q.1 h.1)
 
-  samples_apart : (issues : List Issue) → All (Proper class b) issues → Different (hashes issues) → Different (samples issues)
+  samples_apart : (issues : List Issue) → AllByRecursion (Proper class b) issues → Different (hashes issues) → Different (samples issues)
   samples_apart [] p h = tt
   samples_apart (i ∷ issues) p h = (sample_apart i issues p.0 p.1 h.0, samples_apart issues p.1 h.1)
 

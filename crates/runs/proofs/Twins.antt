@@ -1,7 +1,7 @@
 -- Two keys with one form, joined by U: what a session asks and makes of a sample x under the first key, it asks
 -- and makes of U·x under the second.
 use Rattle.std.proofs.Common.{◌≡◌, ℕ, ◌*◌, ◌<◌, true, false, eqb, leb, List, [], ◌∷◌, ◌++◌, map, length, ℤ, pos, nat_abs, sym, refl, ap, ◌∙◌, inl, inr, arith}
-use Rattle.std.specs.List.{AllByRecursion as All}
+use Rattle.std.specs.List.{AllByRecursion}
 use Rattle.std.specs.Str.{bytes_eq}
 use Rattle.std.proofs.ByRecursion.{All-map, all_shuffled}
 use Rattle.std.proofs.lemmas.Slice.Eq.{bytes_eq-Decides}
@@ -22,7 +22,7 @@ use Rattle.acceptance.proofs.Points.{pair_from_size, numbers_size, from_numbers,
 use Rattle.acceptance.proofs.Bases.{applied_size}
 use Rattle.runs.proofs.Applied.{composed_applied}
 
-all_unmapped : {X Y : Type 0} (P : Y → Type 0) (f : X → Y) (xs : List X) → All P (map f xs) → All (λ x. P (f x)) xs
+all_unmapped : {X Y : Type 0} (P : Y → Type 0) (f : X → Y) (xs : List X) → AllByRecursion P (map f xs) → AllByRecursion (λ x. P (f x)) xs
 all_unmapped P f [] h = tt
 all_unmapped P f (x ∷ xs) h = (h.0, all_unmapped P f xs h.1)
 
@@ -112,13 +112,13 @@ module _ (n : ℕ) (b b' : Basis) (positive : 0 < n) (key : IsKey n b) (j : Join
         | inr e ↦ ap length (unmoved sample e)
       ]
 
-  within_moved : (m : ℕ) (x : Pair) → PairOf n x → All (Within m) (numbers_of x) → All (Within m) (numbers_of (by x))
+  within_moved : (m : ℕ) (x : Pair) → PairOf n x → AllByRecursion (Within m) (numbers_of x) → AllByRecursion (Within m) (numbers_of (by x))
   unfolding magnitudes numbers_of
   within_moved m x q h =
       all_unmapped (λ k. leb k m ≡ true) nat_abs ((by x).first ++ (by x).second)
       (all_shuffled (λ k. leb k m ≡ true) (magnitudes x) (magnitudes (by x)) (j.keeps_numbers x q) (All-map (λ k. leb k m ≡ true) nat_abs (x.first ++ x.second) h))
 
-  pub fits_moved : (sample : List ℤ) (m : ℕ) → All (Within m) sample → All (Within m) (moved n j.by sample)
+  pub fits_moved : (sample : List ℤ) (m : ℕ) → AllByRecursion (Within m) sample → AllByRecursion (Within m) (moved n j.by sample)
   fits_moved sample m h =
       elim (cases_Bool (eqb (length sample) (2 * n))) [
         | inl e ↦

@@ -1,6 +1,6 @@
 -- The signatures that a run issues. Assumes nothing.
 use Rattle.std.specs.Prelude.{◌≡◌, ℕ, ◌<◌, Bool, List, [], ◌∷◌, ◌++◌, map, ℤ, ◌≢◌}
-use Rattle.std.specs.List.{AllByRecursion as All}
+use Rattle.std.specs.List.{AllByRecursion}
 use Rattle.ring.specs.Classes.{size_of}
 use Rattle.ring.specs.declared.class.Class.{Class}
 use Rattle.ring.specs.declared.fault.Fault.{Fault}
@@ -13,9 +13,9 @@ use Rattle.scheme.specs.Verdicts.{Accepted}
 
 -- a call whose arguments are of their types: a hash is bytes, a sample is 16-bit numbers other than −32,768
 abbrev pub Given : Call → Type 0
-Given (announce hash) = All (λ byte. byte < 256) hash
+Given (announce hash) = AllByRecursion (λ byte. byte < 256) hash
 Given (target order area words) = Unit {0}
-Given (sign order sample area words) = All (Within 32767) sample
+Given (sign order sample area words) = AllByRecursion (Within 32767) sample
 Given (withdraw order) = Unit {0}
 Given count = Unit {0}
 
@@ -50,7 +50,7 @@ issues_of (event ∷ events) = issue_at event.before event.call event.step ++ is
 -- no two of them are equal
 abbrev pub Different : {X : Type 0} → List X → Type 0
 Different [] = Unit {0}
-Different (x ∷ xs) = All (λ y. x ≢ y) xs × Different xs
+Different (x ∷ xs) = AllByRecursion (λ y. x ≢ y) xs × Different xs
 
 -- accepted under the key's form and its order's hash, with its sample's squared length as N
 pub record Stands (class : Class) (b : Basis) (issue : Issue) : Type 0 where
@@ -64,7 +64,7 @@ entries_after state (event ∷ events) = entries_after event.step.after events
 
 -- what every run of a session keeps
 pub record Lawful (class : Class) (b : Basis) (start : State) (events : List Event) : Type 0 where
-  pub stand : All (Stands class b) (issues_of events)
+  pub stand : AllByRecursion (Stands class b) (issues_of events)
   -- no hash gets two signatures
   pub hashes_differ : Different (map (λ i. i.hash) (issues_of events))
   -- no two hashes are signed with one sample

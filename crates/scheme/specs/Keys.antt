@@ -1,6 +1,6 @@
 -- Keys and forms of HAWK, over lists of integers. Assumes nothing.
 use Rattle.std.specs.Prelude.{◌≡◌, ℕ, Bool, true, ◌&&◌, List, [], ◌∷◌, length, ℤ, pos, ◌==◌, nat_le, unsigned_abs}
-use Rattle.std.specs.List.{AllByRecursion as All}
+use Rattle.std.specs.List.{AllByRecursion}
 use Rattle.ring.specs.Elements.{product, sum, difference, adjoint, constant, total}
 use Rattle.ring.specs.Kinds.{rest}
 
@@ -55,10 +55,10 @@ pub record IsKey (n : ℕ) (b : Basis) : Type 0 where
   pub g_size : length b.g ≡ n
   pub F_size : length b.F ≡ n
   pub G_size : length b.G ≡ n
-  pub f_small : All (Within key_limit) b.f
-  pub g_small : All (Within key_limit) b.g
-  pub F_small : All (Within key_limit) b.F
-  pub G_small : All (Within key_limit) b.G
+  pub f_small : AllByRecursion (Within key_limit) b.f
+  pub g_small : AllByRecursion (Within key_limit) b.g
+  pub F_small : AllByRecursion (Within key_limit) b.F
+  pub G_small : AllByRecursion (Within key_limit) b.G
   pub f_odd : odd (total b.f) ≡ true
   pub g_odd : odd (total b.g) ≡ true
   pub unit_determinant : determinant b ≡ constant n (pos 1)
@@ -76,8 +76,8 @@ pub record IsForm (n : ℕ) (q : Gram) : Type 0 where
   pub q00_size : length q.q00 ≡ n
   pub q01_size : length q.q01 ≡ n
   pub q11_size : length q.q11 ≡ n
-  pub q00_small : All (Within form_limit) q.q00
-  pub q01_small : All (Within form_limit) q.q01
-  pub q11_small : All (Within form_limit) q.q11
+  pub q00_small : AllByRecursion (Within form_limit) q.q00
+  pub q01_small : AllByRecursion (Within form_limit) q.q01
+  pub q11_small : AllByRecursion (Within form_limit) q.q11
   pub q00_selfadjoint : q.q00 ≡ adjoint q.q00
   pub q11_selfadjoint : q.q11 ≡ adjoint q.q11

@@ -6,7 +6,7 @@ use Rattle.std.proofs.lemmas.Nat.{div-add-mod', div_below}
 use mir.Facts.{Fits-of_z}
 use Rattle.std.proofs.ByRecursion.{All-get_or}
 use Rattle.slip.proofs.Areas.{written_more}
-use Rattle.std.specs.List.{AllByRecursion as All}
+use Rattle.std.specs.List.{AllByRecursion}
 use Rattle.std.proofs.lemmas.Int.{to_z-of_z}
 use Rattle.std.proofs.lemmas.List.FromFn.{fill_by_all, length-map-range_with_len, get_or-map-range_with_len}
 use Rattle.std.proofs.lemmas.List.{take_more, map_more, append-nil, get_or-append-add, get_or_append_left, get_or-append_right, length-map, length-take-le}
@@ -57,21 +57,21 @@ unfolding at32
 at32_behind front rest p k e =
     rw (behind front rest p k e, behind front rest (p + 1) (k + 1) (omega arith), behind front rest (p + 2) (k + 2) (omega arith), behind front rest (p + 3) (k + 3) (omega arith))
 
-at32_bytes32 : (zs : List ℤ) (k : ℕ) → All (SFits w32) zs → k < length zs → at32 (bytes32 zs) (4 * k) ≡ of_z w32 (get_or zs k (pos 0))
+at32_bytes32 : (zs : List ℤ) (k : ℕ) → AllByRecursion (SFits w32) zs → k < length zs → at32 (bytes32 zs) (4 * k) ≡ of_z w32 (get_or zs k (pos 0))
 unfolding bytes32 split32
 at32_bytes32 [] k all h = omega arith
 at32_bytes32 (z ∷ zs) zero all h = at32_front (of_z w32 z) (bytes32 zs) (of_z32 z all.0)
 at32_bytes32 (z ∷ zs) (suc k) all h =
     at32_behind (split32 (of_z w32 z)) (bytes32 zs) (4 * suc k) (4 * k) (omega arith) ∙ at32_bytes32 zs k all.1 (omega arith)
 
-pub back32 : (zs : List ℤ) → All (SFits w32) zs → numbers32 (bytes32 zs) ≡ zs
+pub back32 : (zs : List ℤ) → AllByRecursion (SFits w32) zs → numbers32 (bytes32 zs) ≡ zs
 unfolding number32 numbers32
 back32 zs all =
     let n : length (bytes32 zs) / 4 ≡ length zs = omega (arith, length_bytes32 zs) in
     rw n (sym (fill_by_all (number32 (bytes32 zs)) zs (length zs) (pos 0) refl
     (λ k h. sym (ap (to_z w32) (at32_bytes32 zs k all h) ∙ to_z-of_z w32 (get_or zs k (pos 0)) (All-get_or (SFits w32) zs k (pos 0) h all)))))
 
-pub back8 : (zs : List ℤ) → All (SFits w8) zs → numbers8 (bytes8 zs) ≡ zs
+pub back8 : (zs : List ℤ) → AllByRecursion (SFits w8) zs → numbers8 (bytes8 zs) ≡ zs
 unfolding numbers8 bytes8
 back8 [] all = refl
 back8 (z ∷ zs) all = let e = to_z-of_z w8 z all.0 in let h = back8 zs all.1 in cc

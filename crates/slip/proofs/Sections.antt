@@ -1,19 +1,19 @@
 -- The parts of a file that is a report, a body and a trailer.
 use Rattle.std.proofs.Common.{◌≡◌, ℕ, zero, suc, ◌+◌, ◌*◌, ◌<◌, ◌≤◌, List, [], ◌∷◌, ◌++◌, length, get_or, take, drop, sym, refl, ap, ◌∙◌, mul-le-mul_right, suc-mul, add-mul, one-mul, zero-mul, arith, length-append, length-drop}
-use Rattle.std.specs.List.{flat_map, AllByRecursion as All}
+use Rattle.std.specs.List.{flat_map, AllByRecursion}
 use Rattle.std.proofs.lemmas.List.{take_at, drop_at, drop-drop, take-append-le, drop-append-le}
 use Rattle.slip.specs.declared.kind.Kind.{Kind}
 use Rattle.slip.specs.Kinds.{sections_of, part_of, bytes_of}
 use Rattle.slip.specs.Slips.{body_place, report_bytes, section_place, section_bytes}
 
-pub length_parts : (p : ℕ) (parts : List (List ℕ)) → All (λ l. length l ≡ p) parts → length (flat_map (λ l. l) parts) ≡ length parts * p
+pub length_parts : (p : ℕ) (parts : List (List ℕ)) → AllByRecursion (λ l. length l ≡ p) parts → length (flat_map (λ l. l) parts) ≡ length parts * p
 length_parts p [] all = sym (zero-mul p)
 length_parts p (x ∷ xs) all =
     let e = length_parts p xs all.1 in
     omega (arith, suc-mul (length xs) p, length-append x (flat_map (λ l. l) xs), all.0)
 
 -- one of many parts of one length
-chunk : (p : ℕ) (parts : List (List ℕ)) (i : ℕ) → All (λ l. length l ≡ p) parts → i < length parts
+chunk : (p : ℕ) (parts : List (List ℕ)) (i : ℕ) → AllByRecursion (λ l. length l ≡ p) parts → i < length parts
     → take p (drop (i * p) (flat_map (λ l. l) parts)) ≡ get_or parts i []
 chunk p [] i all h = absurd (omega arith)
 chunk p (x ∷ xs) zero all h =
@@ -56,7 +56,7 @@ module _ (kind : Kind) (n : ℕ) (report body rest : List ℕ) (b : length body 
 
 -- the sections of a body that is made of them
 pub section_of : (kind : Kind) (n : ℕ) (report rest : List ℕ) (parts : List (List ℕ)) (i : ℕ)
-    → All (λ l. length l ≡ part_of kind n) parts → length parts ≡ sections_of kind → length rest ≡ 8 → i < sections_of kind
+    → AllByRecursion (λ l. length l ≡ part_of kind n) parts → length parts ≡ sections_of kind → length rest ≡ 8 → i < sections_of kind
     → section_bytes kind n (report ++ (flat_map (λ l. l) parts ++ rest)) i ≡ get_or parts i []
 section_of kind n report rest parts i all c t h =
     section_is kind n report (flat_map (λ l. l) parts) rest (length_parts (part_of kind n) parts all ∙ ap (λ k. k * part_of kind n) c) t i h
