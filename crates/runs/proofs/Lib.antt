@@ -1,6 +1,6 @@
 pub mod Applied
 pub mod Twins
-pub mod Hidden
+pub mod HiddenKeys
 pub mod Bytes
 pub mod Effects
 pub mod Laws

@@ -4,7 +4,7 @@ use Rattle.algebra.proofs.Counting.{exactly_4n}
 use Rattle.ring.specs.Classes.{size_of}
 use Rattle.runs.specs.Sealed.{SessionsAreSealed}
 use Rattle.runs.proofs.Applied.{positive}
-use Rattle.runs.proofs.Hidden.{keys_stay_hidden}
+use Rattle.runs.proofs.HiddenKeys.{keys_stay_hidden}
 use Rattle.runs.proofs.Laws.{lawful}
 
 pub sealed : SessionsAreSealed
