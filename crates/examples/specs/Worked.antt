@@ -4,8 +4,8 @@ use Rattle.ring.specs.Elements.{constant}
 use Rattle.ring.specs.Faults.{fault, first_failing}
 use Rattle.ring.specs.declared.class.Class.TheVariants.{One}
 use Rattle.ring.specs.declared.fault.Layer.TheVariants.{Key, Session, Check}
-use Rattle.scheme.specs.Keys.{Basis, basis, Gram, gram, form_of}
-use Rattle.scheme.specs.Sessions.{opened, Call, announce, target, sign, Answer, refused, ordered, aimed, signed}
+use Rattle.scheme.specs.Keys.{Basis, basis, gram, form_of}
+use Rattle.scheme.specs.Sessions.{opened, Call, announce, target, sign, Answer, refused, ordered, signed}
 use Rattle.scheme.specs.Steps.{run}
 use Rattle.scheme.specs.Verdicts.{verify_tests, length_under, point_of}
 use Rattle.key.specs.Loading.{sound_tests}

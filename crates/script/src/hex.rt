@@ -55,7 +55,7 @@ fn pairs(heap: Global, text: &[u8]) -> Result<Vec<u8>, AllocError>
 pub fn hex_bytes(heap: Global, text: &[u8]) -> Result<Option<Vec<u8>>, AllocError>
     ensures { IfOk result (λ o. option_map vec_items o ≡ hex_bytes text.now) }
 {
-    if text == b"-" {
+    if text == b"-".as_slice() {
         return Ok(Some(Vec::new(heap)));
     }
     if !is_hex(text) {

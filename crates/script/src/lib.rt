@@ -1,4 +1,6 @@
 // What the lines of a script mean, and the text of each reply.
+#![tactic(auto)]
+
 mod hex;
 mod line;
 mod operand;
