@@ -81,7 +81,7 @@ fn of_bits(heap: Global, case: &Case, a: &[u8], b: &[u8]) -> Result<Vec<u8>, Sto
 pub(crate) fn run(heap: Global, case: &Case) -> Result<Vec<u8>, Stop> {
     let a = bytes(heap, case.field("a")?)?;
     let b = second(heap, case)?;
-    if case.field("kind")? == b"word" {
+    if case.field("kind")? == b"word".as_slice() {
         of_words(heap, case, a.as_slice(), b.as_slice())
     } else {
         of_bits(heap, case, a.as_slice(), b.as_slice())

@@ -8,13 +8,13 @@ use slip::{Kind, Slip, SlipFault, read_signature, write_signature};
 use std::alloc::Global;
 
 fn kind_named(name: &[u8]) -> Result<Kind, Stop> {
-    if name == b"key" {
+    if name == b"key".as_slice() {
         return Ok(Kind::Key);
     }
-    if name == b"form" {
+    if name == b"form".as_slice() {
         return Ok(Kind::Form);
     }
-    if name == b"sig" {
+    if name == b"sig".as_slice() {
         return Ok(Kind::Signature);
     }
     Err(Stop::Unreadable)

@@ -20,7 +20,7 @@ fn digit(b: u8) -> Result<u8, Stop>
 // The bytes of lower-case hexadecimal text; `-` stands for none.
 pub(crate) fn bytes(heap: Global, text: &[u8]) -> Result<Vec<u8>, Stop> {
     let mut out = Vec::new(heap);
-    if text == b"-" {
+    if text == b"-".as_slice() {
         return Ok(out);
     }
     if text.len() % 2 == 1 {
