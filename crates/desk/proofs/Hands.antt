@@ -1,12 +1,12 @@
 -- What an answer of a session's step says of the state afterwards, and of an order in hand.
-use Rattle.std.proofs.Common.{◌≡◌, ℕ, Bool, true, false, cond, not, ◌&&◌, eqb, List, [], ◌∷◌, ℤ, is_some, Some, None, Ok, Err, Option, Result, sym, refl, ap, ◌∙◌, subst, arith}
+use Rattle.std.proofs.Common.{◌≡◌, ℕ, Bool, true, false, cond, not, ◌&&◌, eqb, List, [], ℤ, is_some, Some, None, Ok, Err, Option, Result, sym, refl, ap, ◌∙◌, subst, arith}
 use Rattle.std.proofs.lemmas.Bool.{eq-eqb}
 use Rattle.ring.specs.Faults.{first_failing}
 use Rattle.ring.specs.declared.class.Class.{Class}
 use Rattle.ring.specs.declared.fault.Fault.{Fault}
 use Rattle.scheme.specs.Keys.{Basis}
 use Rattle.scheme.specs.Refusals.{session_fault}
-use Rattle.scheme.specs.Sessions.{State, Call, announce, target, sign, withdraw, count, Answer, refused, ordered, aimed, withdrawn, Step}
+use Rattle.scheme.specs.Sessions.{State, Call, announce, target, sign, withdraw, count, Answer, refused, ordered, aimed}
 use Rattle.scheme.specs.Steps.{number_in, with_order, announce_tests, withdraw_tests, tests_of, refusal, decided, work, step}
 use Rattle.scheme.specs.declared.fault.SessionFault.{SessionFault}
 use Rattle.scheme.specs.declared.fault.SessionFault.TheVariants.{Standing}

@@ -1,4 +1,6 @@
 // A session with its order in hand, for programs: the order lies in an `Option`, where none can get lost.
+#![tactic(auto)]
+
 mod hand;
 
 pub use hand::{announce, close, sign, target, withdraw};

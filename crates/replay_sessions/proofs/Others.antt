@@ -48,5 +48,5 @@ not_false false h = refl
 
 pub differs_is : (state : State) (hand : Option Order) (order : Order) (n issued : ℕ) (standing : Bool) → hand ≡ Some order → n ≡ order.number → Counted state issued standing
     → not (standing && eqb n (issued + 1)) ≡ true → matched hand state ≡ false
-differs_is state hand order n issued standing is n-is counts h =
-    ap (λ o. matched o state) is ∙ sym (rw (counts.standing_is, n-is, counts.issued_is)) ∙ not_false (standing && eqb n (issued + 1)) h
+differs_is state hand order n issued standing is n_is counts h =
+    ap (λ o. matched o state) is ∙ sym (rw (counts.standing_is, n_is, counts.issued_is)) ∙ not_false (standing && eqb n (issued + 1)) h

@@ -1,4 +1,6 @@
 // Runs cases from standard input and writes those that come out otherwise than expected.
+#![tactic(auto)]
+
 mod case;
 mod elements;
 mod files;

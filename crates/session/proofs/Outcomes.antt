@@ -1,5 +1,5 @@
 -- The first failing test of each call, by what fails.
-use Rattle.std.proofs.Common.{◌≡◌, ℕ, ◌<◌, ◌≤◌, true, false, List, [], ◌∷◌, length, ℤ, Some, None, sym, refl, ap, ◌∙◌}
+use Rattle.std.proofs.Common.{◌≡◌, ℕ, ◌<◌, ◌≤◌, true, false, List, [], ◌∷◌, length, ℤ, Some, None, refl, ap, ◌∙◌}
 use Rattle.std.proofs.lemmas.Bool.{true≢false, le-ltb, lt-ltb}
 use Rattle.ring.proofs.Firsts.{first_after, first_before}
 use Rattle.ring.specs.Classes.{size_of}
@@ -9,7 +9,7 @@ use Rattle.ring.specs.declared.fault.Fault.{Fault}
 use Rattle.scheme.specs.Keys.{Basis}
 use Rattle.scheme.specs.Pairs.{pair_from}
 use Rattle.scheme.specs.Refusals.{session_fault}
-use Rattle.scheme.specs.Sessions.{State, Call, Step, announce, target, sign, withdraw, count}
+use Rattle.scheme.specs.Sessions.{State, Call, announce, target, sign, withdraw, count}
 use Rattle.scheme.specs.Steps.{step, work, decided, refusal, listed, standing_pair, order_test, tests_of, announce_tests, target_tests, sample_tests, sign_tests, withdraw_tests}
 use Rattle.scheme.specs.declared.fault.SessionFault.TheVariants.{Length, Standing, Order, Full, Logged}
 use Rattle.session.specs.Asks.{fitting}

@@ -3,7 +3,7 @@ use Rattle.std.proofs.Common.{◌≡◌, ℕ, true, List, ◌∷◌, length, ℤ
 use Rattle.std.proofs.lemmas.Bool.{eq-eqb}
 use Rattle.ring.proofs.Firsts.{first_passes}
 use Rattle.ring.specs.Classes.{size_of, hash_length_of}
-use Rattle.ring.specs.Faults.{Test, first_failing}
+use Rattle.ring.specs.Faults.{first_failing}
 use Rattle.scheme.specs.Hashes.{hash_pair}
 use Rattle.scheme.specs.Pairs.{pair_from}
 use Rattle.scheme.specs.Sessions.{sign}

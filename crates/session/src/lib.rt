@@ -1,4 +1,6 @@
 // A signing session: it hands out an order for a hash and keeps a log of the hashes that it signed.
+#![tactic(auto)]
+
 mod ask;
 mod log;
 mod order;

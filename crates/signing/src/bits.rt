@@ -17,7 +17,7 @@ pub(crate) fn blank<const N: usize>() -> [Bit; N]
 
 // A number modulo 2: −1 gives 1.
 pub(crate) fn parity<S: Number>(number: S) -> Bit
-    ensures { bit_value result ≡ rest 2 (value number) }
+    ensures { bit_value result ≡ rest 2 (S.value number) }
 {
     Bit(number.word().rem_euclid(2) == 1)
 }

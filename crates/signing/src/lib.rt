@@ -1,4 +1,6 @@
 // Targets and signatures of a key.
+#![tactic(auto)]
+
 mod bits;
 mod guard;
 mod rows;

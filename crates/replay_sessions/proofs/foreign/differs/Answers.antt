@@ -1,8 +1,8 @@
 use Rattle.std.proofs.Common.{ap, ◌∙◌}
 use Rattle.key.specs.Held.{basis_of}
 use Rattle.session.specs.Held.{state_of}
-use Rattle.replay.proofs.Others.{count_is, differs_is}
-use Rattle.replay.proofs.foreign.differs.Goals as goal
+use Rattle.replay_sessions.proofs.Others.{count_is, differs_is}
+use Rattle.replay_sessions.proofs.foreign.differs.Goals as goal
 
 pub returns-in-Some : goal.returns-in-Some
 returns-in-Some c h =

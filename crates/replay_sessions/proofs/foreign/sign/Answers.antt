@@ -1,8 +1,8 @@
 use Rattle.std.proofs.Common.{length, refl, ◌∙◌}
 use Rattle.key.specs.Held.{basis_of}
 use Rattle.session.specs.Held.{state_of}
-use Rattle.replay.proofs.Others.{sign_stays}
-use Rattle.replay.proofs.foreign.sign.Goals as goal
+use Rattle.replay_sessions.proofs.Others.{sign_stays}
+use Rattle.replay_sessions.proofs.foreign.sign.Goals as goal
 
 pub returns : goal.returns
 returns c =

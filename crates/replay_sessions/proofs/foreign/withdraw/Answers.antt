@@ -1,8 +1,8 @@
 use Rattle.std.proofs.Common.{refl, ◌∙◌}
 use Rattle.key.specs.Held.{basis_of}
 use Rattle.session.specs.Held.{state_of}
-use Rattle.replay.proofs.Others.{withdraw_stays}
-use Rattle.replay.proofs.foreign.withdraw.Goals as goal
+use Rattle.replay_sessions.proofs.Others.{withdraw_stays}
+use Rattle.replay_sessions.proofs.foreign.withdraw.Goals as goal
 
 pub returns : goal.returns
 returns c =

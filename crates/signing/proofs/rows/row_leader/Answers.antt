@@ -7,13 +7,13 @@ use Rattle.signing.proofs.rows.row_leader.Goals as goal
 
 pub leader-requires : goal.leader-requires
 leader-requires c =
-    let a-is : c.widen.new.words ≡ c.args.a.now = c.widen.ensures ∙ widened c.args.a.now c.split_at_mut-a_words.result.0.now (omega (arith, c.split_at_mut-a_words.ensures.front-len)) in
+    let a-is : c.widen.new.words ≡ c.args.a.now = c.widen.ensures ∙ widened c.args.a.now c.split_at_mut-a_words.result.0.now (omega (arith, c.split_at_mut-a_words.ensures.front_len)) in
     let b-is : c.widen-2.new.words ≡ c.args.b.now = c.widen-2.ensures ∙ widened c.args.b.now c.split_at_mut-a_words.result.1.now (omega (arith, c.split_at_mut-a_words.ensures.back_len, c.requires.row.same)) in
     rw (a-is, b-is) c.requires.row
 
 pub returns : goal.returns
 returns c =
-    let a-is : c.widen.new.words ≡ c.args.a.now = c.widen.ensures ∙ widened c.args.a.now c.split_at_mut-a_words.result.0.now (omega (arith, c.split_at_mut-a_words.ensures.front-len)) in
+    let a-is : c.widen.new.words ≡ c.args.a.now = c.widen.ensures ∙ widened c.args.a.now c.split_at_mut-a_words.result.0.now (omega (arith, c.split_at_mut-a_words.ensures.front_len)) in
     let b-is : c.widen-2.new.words ≡ c.args.b.now = c.widen-2.ensures ∙ widened c.args.b.now c.split_at_mut-a_words.result.1.now (omega (arith, c.split_at_mut-a_words.ensures.back_len, c.requires.row.same)) in
     let fits : SFits w64 c.leader.result = record { sfits = c.leader.type_inv } in
     to_z-of_z w64 c.leader.result fits ∙ c.leader.ensures

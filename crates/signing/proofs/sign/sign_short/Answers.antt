@@ -17,8 +17,8 @@ sign_pair-requires c =
     let n = size_of class in
     let size : c.size-n.result ≡ n = c.size-n.ensures ∙ ap size_of c.class.ensures.class in
     let long : length sample ≡ n + n = omega (arith, c.requires.sized.sample_long) in
-    let x0-is = front_words sample c.widen.new.words _ c.size-n.result n size long c.split_at_mut-x0.ensures.front-len c.widen.ensures in
-    let x1-is = back_words sample c.widen-2.new.words _ c.size-n.result n size long c.split_at_mut-x1.ensures.front-len c.widen-2.ensures in
+    let x0-is = front_words sample c.widen.new.words _ c.size-n.result n size long c.split_at_mut-x0.ensures.front_len c.widen.ensures in
+    let x1-is = back_words sample c.widen-2.new.words _ c.size-n.result n size long c.split_at_mut-x1.ensures.front_len c.widen-2.ensures in
     let small = parts_small class n sample c.requires.bounded in
     record {
       x0_long = ap length x0-is ∙ length-take-le n sample (omega arith);
@@ -36,8 +36,8 @@ returns c =
     let n = size_of key.class in
     let size : c.size-n.result ≡ n = c.size-n.ensures ∙ ap size_of c.class.ensures.class in
     let long : length sample ≡ n + n = omega (arith, c.requires.sized.sample_long) in
-    let x0-is = front_words sample c.widen.new.words _ c.size-n.result n size long c.split_at_mut-x0.ensures.front-len c.widen.ensures in
-    let x1-is = back_words sample c.widen-2.new.words _ c.size-n.result n size long c.split_at_mut-x1.ensures.front-len c.widen-2.ensures in
+    let x0-is = front_words sample c.widen.new.words _ c.size-n.result n size long c.split_at_mut-x0.ensures.front_len c.widen.ensures in
+    let x1-is = back_words sample c.widen-2.new.words _ c.size-n.result n size long c.split_at_mut-x1.ensures.front_len c.widen-2.ensures in
     record {
       answer = pair_answer (basis_of key) (hash_pair n c.args.hash.now) n sample c.widen.new.words c.widen-2.new.words c.sign_pair.new.area c.sign_pair.result x0-is x1-is c.sign_pair.ensures.answer;
       kept = c.sign_pair.ensures.kept;

@@ -14,7 +14,7 @@ length_under-requires c =
     record {
       first = first_words class c.size-n.result c.args.hash.now c.args.signature.now c.write_point.new.words c.write_point-2.new.words c.requires.signature n c.write_point.ensures c.write_point-2.ensures c.requires.range;
       second = second_words class c.size-n.result c.args.hash.now c.args.signature.now c.write_point.new.words c.write_point-2.new.words c.requires.signature n c.write_point.ensures c.write_point-2.ensures c.requires.range;
-      p_long = omega (arith, n, c.split_at_mut-v0.ensures.back_len, c.split_at_mut-v1.ensures.back_len, c.split_at_mut-p.ensures.front-len);
+      p_long = omega (arith, n, c.split_at_mut-v0.ensures.back_len, c.split_at_mut-v1.ensures.back_len, c.split_at_mut-p.ensures.front_len);
       q_long = omega (arith, n, c.requires.words, c.split_at_mut-v0.ensures.back_len, c.split_at_mut-v1.ensures.back_len, c.split_at_mut-p.ensures.back_len);
     }
 

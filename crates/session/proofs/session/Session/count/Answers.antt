@@ -1,6 +1,5 @@
-use Rattle.std.proofs.Common.{◌≡◌, is_some, sym, refl, ap, ◌∙◌}
+use Rattle.std.proofs.Common.{◌≡◌, is_some, refl}
 use Rattle.scheme.specs.Steps.{work}
-use Rattle.scheme.specs.Sessions.{counted}
 use Rattle.ring.specs.Classes.{hash_length_of}
 use Rattle.session.specs.Held.{state_of}
 use Rattle.session.proofs.Entries.{length_chunks}

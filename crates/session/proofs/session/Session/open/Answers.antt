@@ -1,4 +1,4 @@
-use Rattle.std.proofs.Common.{◌≡◌, ◌*◌, length, drop, refl, ap, zero-mul}
+use Rattle.std.proofs.Common.{◌≡◌, length, drop, refl, ap, zero-mul}
 use Rattle.ring.specs.Classes.{hash_length_of}
 use Rattle.scheme.specs.Sessions.{opened, capacity_of}
 use Rattle.key.specs.Held.{basis_of}

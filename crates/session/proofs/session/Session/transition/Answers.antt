@@ -1,7 +1,6 @@
-use Rattle.std.proofs.Common.{length, sym, refl, ap, ◌∙◌}
+use Rattle.std.proofs.Common.{length, refl, ap, ◌∙◌}
 use Rattle.ring.specs.Classes.{size_of}
 use Rattle.scheme.specs.Pairs.{pair_from, numbers_of}
-use Rattle.scheme.specs.Sessions.{signed}
 use Rattle.scheme.specs.Signing.{target_of, signature_of}
 use Rattle.scheme.specs.Steps.{work}
 use Rattle.session.specs.Held.{state_of}
@@ -30,20 +29,20 @@ returns-in-Idle-Target c =
     let e = target_idle (class_in s) (basis_in s) (state_of s) _ _ _ (suited s asks c.suits.ensures c.if-not-suits.false) (none_stands s c.in-Idle-Target.is-0) in
     record { step = refusing s asks c.requires.target c.requires.signature e; key = refl; lender = refl }
 
-pub returns-in_err-serves : goal.returns-in_err-serves
-returns-in_err-serves c =
+pub returns-in_err-serves-in-Standing-Target : goal.returns-in_err-serves-in-Standing-Target
+returns-in_err-serves-in-Standing-Target c =
     let s = c.args.self.now in
     let asks = asking s c.args.target.now c.args.signature.now (length c.args.scratch.now) c.in-Standing-Target.is-1 in
-    let e = target_tests_lem (class_in s) (basis_in s) (state_of s) _ _ _ (suited s asks c.suits.ensures c.if-not-suits.false) ∙ c.in_err-serves.ensures in
+    let e = target_tests_lem (class_in s) (basis_in s) (state_of s) _ _ _ (suited s asks c.suits.ensures c.if-not-suits.false) ∙ c.in_err-serves-in-Standing-Target.ensures in
     record { step = breaking s asks c.from_residual.result _ c.from_residual.ensures.1 c.requires.target c.requires.signature e; key = refl; lender = refl }
 
-pub returns-in_ok-write_target : goal.returns-in_ok-write_target
+pub returns-in_ok-write_target-in-Standing-Target : goal.returns-in_ok-write_target-in-Standing-Target
 unfolding work
-returns-in_ok-write_target c =
+returns-in_ok-write_target-in-Standing-Target c =
     let s = c.args.self.now in
     let asks = asking s c.args.target.now c.args.signature.now (length c.args.scratch.now) c.in-Standing-Target.is-1 in
-    let e = target_tests_lem (class_in s) (basis_in s) (state_of s) _ _ _ (suited s asks c.suits.ensures c.if-not-suits.false) ∙ c.in_ok-serves.ensures.0 in
-    let t = c.in_ok-write_target.ensures.answer.1 ∙ ap (target_of (basis_in s)) (kept_pair s c.in-Standing-Target.is-0 c.kept.ensures.value) in
+    let e = target_tests_lem (class_in s) (basis_in s) (state_of s) _ _ _ (suited s asks c.suits.ensures c.if-not-suits.false) ∙ c.in_ok-serves-in-Standing-Target.ensures.0 in
+    let t = c.in_ok-write_target-in-Standing-Target.ensures.answer.1 ∙ ap (target_of (basis_in s)) (kept_pair s c.in-Standing-Target.is-0 c.kept.ensures.value) in
     record { step = working s asks e (same_step refl t (lent_signature s asks c.requires.signature) refl); key = refl; lender = refl }
 
 pub returns-in-Idle-Sign : goal.returns-in-Idle-Sign
@@ -53,35 +52,35 @@ returns-in-Idle-Sign c =
     let e = sign_idle (class_in s) (basis_in s) (state_of s) _ _ _ _ (suited s asks c.suits.ensures c.if-not-suits.false) (none_stands s c.in-Idle-Sign.is-0) in
     record { step = refusing s asks c.requires.target c.requires.signature e; key = refl; lender = refl }
 
-pub returns-in_err-serves-2 : goal.returns-in_err-serves-2
-returns-in_err-serves-2 c =
+pub returns-in_err-serves-in-Standing-Sign : goal.returns-in_err-serves-in-Standing-Sign
+returns-in_err-serves-in-Standing-Sign c =
     let s = c.args.self.now in
     let asks = asking s c.args.target.now c.args.signature.now (length c.args.scratch.now) c.in-Standing-Sign.is-1 in
-    let e = sign_other (class_in s) (basis_in s) (state_of s) _ _ _ _ (suited s asks c.suits.ensures c.if-not-suits.false) _ c.in_err-serves-2.ensures in
-    record { step = breaking s asks c.from_residual-in_err-serves-2.result _ c.from_residual-in_err-serves-2.ensures.1 c.requires.target c.requires.signature e; key = refl; lender = refl }
+    let e = sign_other (class_in s) (basis_in s) (state_of s) _ _ _ _ (suited s asks c.suits.ensures c.if-not-suits.false) _ c.in_err-serves-in-Standing-Sign.ensures in
+    record { step = breaking s asks c.from_residual-in_err-serves-in-Standing-Sign.result _ c.from_residual-in_err-serves-in-Standing-Sign.ensures.1 c.requires.target c.requires.signature e; key = refl; lender = refl }
 
-pub returns-in_err-length : goal.returns-in_err-length
-returns-in_err-length c =
+pub returns-in_err-length-in-Standing-Sign : goal.returns-in_err-length-in-Standing-Sign
+returns-in_err-length-in-Standing-Sign c =
     let s = c.args.self.now in
     let asks = asking s c.args.target.now c.args.signature.now (length c.args.scratch.now) c.in-Standing-Sign.is-1 in
     let suits = suited s asks c.suits.ensures c.if-not-suits.false in
-    let e = sign_serves (class_in s) (basis_in s) (state_of s) _ _ _ _ suits c.in_ok-serves-2.ensures.0
+    let e = sign_serves (class_in s) (basis_in s) (state_of s) _ _ _ _ suits c.in_ok-serves-in-Standing-Sign.ensures.0
     ∙ sample_tests_lem s c.kept-in-Standing-Sign.result.now c.in-Standing-Sign.order.now.number _ _ _ c.in-Standing-Sign.is-0 c.kept-in-Standing-Sign.ensures.value c.kept-in-Standing-Sign.ensures.len suits
-    ∙ c.in_err-length.ensures.answer in
+    ∙ c.in_err-length-in-Standing-Sign.ensures.answer in
     record {
-      step = breaking s asks c.from_residual-in_err-length.result _ c.from_residual-in_err-length.ensures.1 c.requires.target (c.in_err-length.ensures.kept ∙ c.requires.signature) e;
+      step = breaking s asks c.from_residual-in_err-length-in-Standing-Sign.result _ c.from_residual-in_err-length-in-Standing-Sign.ensures.1 c.requires.target (c.in_err-length-in-Standing-Sign.ensures.kept ∙ c.requires.signature) e;
       key = refl;
       lender = refl;
     }
 
-pub returns-in_ok-length : goal.returns-in_ok-length
+pub returns-in_ok-length-in-Standing-Sign : goal.returns-in_ok-length-in-Standing-Sign
 unfolding work
-returns-in_ok-length c =
+returns-in_ok-length-in-Standing-Sign c =
     let s = c.args.self.now in
     let asks = asking s c.args.target.now c.args.signature.now (length c.args.scratch.now) c.in-Standing-Sign.is-1 in
     let suits = suited s asks c.suits.ensures c.if-not-suits.false in
-    let a = c.in_ok-length.ensures.answer in
-    let e = sign_serves (class_in s) (basis_in s) (state_of s) _ _ _ _ suits c.in_ok-serves-2.ensures.0
+    let a = c.in_ok-length-in-Standing-Sign.ensures.answer in
+    let e = sign_serves (class_in s) (basis_in s) (state_of s) _ _ _ _ suits c.in_ok-serves-in-Standing-Sign.ensures.0
     ∙ sample_tests_lem s c.kept-in-Standing-Sign.result.now c.in-Standing-Sign.order.now.number _ _ _ c.in-Standing-Sign.is-0 c.kept-in-Standing-Sign.ensures.value c.kept-in-Standing-Sign.ensures.len suits
     ∙ a.0 in
     let l = a.1.0 in
@@ -100,17 +99,17 @@ returns-in-Idle-Withdraw c =
     let e = withdraw_idle (class_in s) (basis_in s) (state_of s) _ (none_stands s c.in-Idle-Withdraw.is-0) in
     record { step = refusing s asks c.requires.target c.requires.signature e; key = refl; lender = refl }
 
-pub returns-in_err-serves-3 : goal.returns-in_err-serves-3
-returns-in_err-serves-3 c =
+pub returns-in_err-serves-in-Standing-Withdraw : goal.returns-in_err-serves-in-Standing-Withdraw
+returns-in_err-serves-in-Standing-Withdraw c =
     let s = c.args.self.now in
     let asks = asking s c.args.target.now c.args.signature.now (length c.args.scratch.now) c.in-Standing-Withdraw.is-1 in
-    let e = withdraw_tests_lem (class_in s) (basis_in s) (state_of s) _ ∙ c.in_err-serves-3.ensures in
-    record { step = breaking s asks c.from_residual-in_err-serves-3.result _ c.from_residual-in_err-serves-3.ensures.1 c.requires.target c.requires.signature e; key = refl; lender = refl }
+    let e = withdraw_tests_lem (class_in s) (basis_in s) (state_of s) _ ∙ c.in_err-serves-in-Standing-Withdraw.ensures in
+    record { step = breaking s asks c.from_residual-in_err-serves-in-Standing-Withdraw.result _ c.from_residual-in_err-serves-in-Standing-Withdraw.ensures.1 c.requires.target c.requires.signature e; key = refl; lender = refl }
 
-pub returns-in_ok-serves-3 : goal.returns-in_ok-serves-3
+pub returns-in_ok-serves-in-Standing-Withdraw : goal.returns-in_ok-serves-in-Standing-Withdraw
 unfolding work
-returns-in_ok-serves-3 c =
+returns-in_ok-serves-in-Standing-Withdraw c =
     let s = c.args.self.now in
     let asks = asking s c.args.target.now c.args.signature.now (length c.args.scratch.now) c.in-Standing-Withdraw.is-1 in
-    let e = withdraw_tests_lem (class_in s) (basis_in s) (state_of s) _ ∙ c.in_ok-serves-3.ensures.0 in
+    let e = withdraw_tests_lem (class_in s) (basis_in s) (state_of s) _ ∙ c.in_ok-serves-in-Standing-Withdraw.ensures.0 in
     record { step = working s asks e (same_step refl (lent_target s asks c.requires.target) (lent_signature s asks c.requires.signature) refl); key = refl; lender = refl }
