@@ -4,7 +4,7 @@ use lib.IntN.{+ℤ_invr}
 use borrow.Author.Differences.{up, down, same_in, sum_is_lem, neg_is, product_is, abs_is}
 use Rattle.ring.specs.Elements.{sum, negative, difference}
 use Rattle.ring.specs.Kinds.{rest}
-use Rattle.ring.specs.Residues.{same_sum, differ_same}
+use Rattle.ring.proofs.Residues.{same_sum, differ_same}
 use Rattle.ring.proofs.Sizes.{Bounded}
 use Rattle.scheme.specs.Pairs.{twice, half}
 

@@ -7,7 +7,7 @@ use Rattle.std.proofs.lemmas.Bool.{cases_lt, leb-true}
 use Rattle.ring.specs.Elements.{dot, crossed, coefficient, product, sum, negative}
 use Rattle.ring.proofs.Sizes.{Bounded, abs_sum, abs_neg, abs_product}
 use Rattle.scheme.specs.Keys.{Within, key_limit}
-use Rattle.algebra.proofs.Lists.{reverse-cons}
+use Rattle.algebra.proofs.Lists.{reverse_cons}
 
 abbrev pub squares : List ℤ → ℕ
 squares [] = 0
@@ -30,7 +30,7 @@ squares_append (x ∷ a) b = omega (arith, squares_append a b)
 
 pub squares_reverse : (a : List ℤ) → squares (reverse a) ≡ squares a
 squares_reverse [] = refl
-squares_reverse (x ∷ a) = ap squares (reverse-cons x a) ∙ squares_append (reverse a) (x ∷ []) ∙ omega (arith, squares_reverse a)
+squares_reverse (x ∷ a) = ap squares (reverse_cons x a) ∙ squares_append (reverse a) (x ∷ []) ∙ omega (arith, squares_reverse a)
 
 pub squares_negative : (a : List ℤ) → squares (negative a) ≡ squares a
 unfolding negative

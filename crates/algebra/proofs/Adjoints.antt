@@ -2,7 +2,7 @@
 use Rattle.std.proofs.Common.{◌≡◌, ℕ, suc, List, [], ◌∷◌, ◌++◌, map, reverse, length, ℤ, ◌+ℤ◌, ◌*ℤ◌, neg_ℤ, sym, refl, ap, ◌∙◌, arith}
 use Rattle.std.proofs.lemmas.List.{length-reverse, reverse-append, reverse-reverse, map-append}
 use Rattle.ring.specs.Elements.{sum, negative, adjoint, turned}
-use Rattle.algebra.proofs.Lists.{reverse-cons, map_reverse, scaled, sum_append, negative_sum, negative_scaled, negative_negative}
+use Rattle.algebra.proofs.Lists.{reverse_cons, map_reverse, scaled, sum_append, negative_sum, negative_scaled, negative_negative}
 use Rattle.algebra.proofs.Elements.{El, same, ended, turn_push, backed, ◌⊕◌, ◌∙∙◌, turn, back, star, Linear}
 
 reverse_sum : (a b : List ℤ) → length a ≡ length b → reverse (sum a b) ≡ sum (reverse a) (reverse b)
@@ -11,8 +11,8 @@ reverse_sum [] [] e = refl
 reverse_sum [] (y ∷ b) e = absurd (omega arith)
 reverse_sum (x ∷ a) [] e = absurd (omega arith)
 reverse_sum (x ∷ a) (y ∷ b) e =
-    reverse-cons (x +ℤ y) (sum a b) ∙ ap (λ (l : List ℤ). l ++ (x +ℤ y) ∷ []) (reverse_sum a b (omega arith))
-    ∙ sym (rw (reverse-cons x a, reverse-cons y b) (sum_append (reverse a) (reverse b) (x ∷ []) (y ∷ []) (length-reverse a ∙ omega arith ∙ sym (length-reverse b))))
+    reverse_cons (x +ℤ y) (sum a b) ∙ ap (λ (l : List ℤ). l ++ (x +ℤ y) ∷ []) (reverse_sum a b (omega arith))
+    ∙ sym (rw (reverse_cons x a, reverse_cons y b) (sum_append (reverse a) (reverse b) (x ∷ []) (y ∷ []) (length-reverse a ∙ omega arith ∙ sym (length-reverse b))))
 
 pub adjoint_cons : (x : ℤ) (a : List ℤ) → adjoint (x ∷ a) ≡ x ∷ negative (reverse a)
 unfolding adjoint negative
@@ -41,7 +41,7 @@ star_linear {m} = record {
 backed_adjoint : (m : ℕ) (a : List ℤ) → length a ≡ suc m → backed (adjoint a) ≡ negative (reverse a)
 unfolding backed adjoint negative
 backed_adjoint m [] h = absurd (omega arith)
-backed_adjoint m (y ∷ t) h = sym (ap (map neg_ℤ) (reverse-cons y t) ∙ map-append neg_ℤ (reverse t) (y ∷ []))
+backed_adjoint m (y ∷ t) h = sym (ap (map neg_ℤ) (reverse_cons y t) ∙ map-append neg_ℤ (reverse t) (y ∷ []))
 
 adjoint_turned : (m : ℕ) (a : List ℤ) → length a ≡ suc m → adjoint (turned 1 a) ≡ backed (adjoint a)
 adjoint_turned m a h =

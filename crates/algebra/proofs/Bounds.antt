@@ -8,7 +8,7 @@ use Rattle.ring.specs.Elements.{dot, crossed, coefficient, product, sum, negativ
 use Rattle.scheme.specs.Keys.{Within, key_limit, form_limit, form_of}
 use Rattle.algebra.specs.Counting.{FormsOfKeys}
 use Rattle.algebra.proofs.Sizes.{length_sum, length_product, length_adjoint}
-use Rattle.algebra.proofs.Lists.{reverse-cons}
+use Rattle.algebra.proofs.Lists.{reverse_cons}
 use Rattle.algebra.proofs.Moves.{abs_neg}
 use Rattle.algebra.proofs.Forms.{q00_selfadjoint, q11_selfadjoint}
 
@@ -31,7 +31,7 @@ abs_dot m (x ∷ a) (y ∷ b) h k =
 
 all_reverse : {X : Type 0} (P : X → Type 0) (a : List X) → AllByRecursion P a → AllByRecursion P (reverse a)
 all_reverse P [] h = tt
-all_reverse P (x ∷ a) h = rw (reverse-cons x a) (All-append P (reverse a) (x ∷ []) (all_reverse P a h.1) (h.0, tt))
+all_reverse P (x ∷ a) h = rw (reverse_cons x a) (All-append P (reverse a) (x ∷ []) (all_reverse P a h.1) (h.0, tt))
 
 abs_crossed : (m : ℕ) (a b : List ℤ) → AllByRecursion (Within m) a → AllByRecursion (Within m) b → nat_abs (crossed a b) ≤ length a * (m * m)
 unfolding crossed

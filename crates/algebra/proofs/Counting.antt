@@ -6,7 +6,7 @@ use Rattle.std.specs.List.{AllByRecursion}
 use Rattle.std.proofs.lemmas.Bool.{cases_lt, lt-ltb, le-ltb}
 use Rattle.ring.specs.Elements.{negative, difference, turned, constant, total}
 use Rattle.ring.specs.Kinds.{rest}
-use Rattle.ring.specs.Residues.{Differ, differ_same, same_sum}
+use Rattle.ring.proofs.Residues.{Differ, differ_same, same_sum}
 use Rattle.scheme.specs.Keys.{Basis, Gram, IsKey, Within, key_limit, odd, determinant, form_of}
 use Rattle.scheme.specs.Powers.{powered}
 use Rattle.scheme.specs.Matrices.{basis_of}

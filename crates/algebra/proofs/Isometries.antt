@@ -14,7 +14,7 @@ none_and_one : (m : ℕ) → inner 𝟎 (𝟎 {m = m}) +ℤ inner 𝟏 (𝟏 {m 
 none_and_one m = rw (one_norm m, inner_zero (𝟎 {m = m}))
 
 module _ {m : ℕ} where
-  -- the one U with N = U-as-M
+  -- the one U with N = U·M
   unfoldable pub joiner : Mat m → Mat m → Mat m
   joiner M N = N ⊙ turned_over M
 

@@ -5,13 +5,13 @@ use Rattle.std.proofs.lemmas.List.{map-append, reverse-append}
 use Rattle.ring.specs.Elements.{dot, sum, negative}
 use Rattle.algebra.proofs.Integers.{*ℤ_assoc, *ℤ_sum, sum_*ℤ, *ℤ_neg, +ℤ_swap}
 
-pub reverse-cons : {X : Type 0} (x : X) (a : List X) → reverse (x ∷ a) ≡ reverse a ++ x ∷ []
-reverse-cons x a = reverse-append (x ∷ []) a
+pub reverse_cons : {X : Type 0} (x : X) (a : List X) → reverse (x ∷ a) ≡ reverse a ++ x ∷ []
+reverse_cons x a = reverse-append (x ∷ []) a
 
 pub map_reverse : {X Y : Type 0} (f : X → Y) (a : List X) → map f (reverse a) ≡ reverse (map f a)
 map_reverse f [] = refl
 map_reverse {Y} f (x ∷ a) =
-    ap (map f) (reverse-cons x a) ∙ map-append f (reverse a) (x ∷ []) ∙ ap (λ (l : List Y). l ++ f x ∷ []) (map_reverse f a) ∙ sym (reverse-cons (f x) (map f a))
+    ap (map f) (reverse_cons x a) ∙ map-append f (reverse a) (x ∷ []) ∙ ap (λ (l : List Y). l ++ f x ∷ []) (map_reverse f a) ∙ sym (reverse_cons (f x) (map f a))
 
 -- c times each number
 abbrev pub scaled : ℤ → List ℤ → List ℤ

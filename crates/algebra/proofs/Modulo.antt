@@ -4,7 +4,7 @@ use Rattle.std.specs.List.{range_with_len}
 use Rattle.std.proofs.lemmas.List.{take-map, drop-map}
 use Rattle.ring.specs.Elements.{dot, crossed, coefficient, product, sum}
 use Rattle.ring.specs.Kinds.{rest}
-use Rattle.ring.specs.Residues.{same_sum, same_negative, same_product}
+use Rattle.ring.proofs.Residues.{same_sum, same_negative, same_product}
 use Rattle.scheme.specs.Matrices.{Pair, Matrix, applied}
 use Rattle.algebra.proofs.Lists.{map_reverse}
 use Rattle.algebra.specs.Isometries.{Congruent}

@@ -6,7 +6,7 @@ use Rattle.ring.specs.Elements.{dot, crossed, coefficient, sum, negative, adjoin
 use Rattle.scheme.specs.Powers.{powered}
 use Rattle.algebra.proofs.Integers.{*ℤ_one, one_*ℤ}
 use Rattle.algebra.proofs.Sizes.{length_turned, length_negative}
-use Rattle.algebra.proofs.Lists.{scaled, sum_cons, sum_comm, sum_zeros, dot_append, dot_negative, dot_zeros, negative_negative, negative_append, reverse-cons}
+use Rattle.algebra.proofs.Lists.{scaled, sum_cons, sum_comm, sum_zeros, dot_append, dot_negative, dot_zeros, negative_negative, negative_append, reverse_cons}
 use Rattle.algebra.proofs.Elements.{El, el, same, turn_push, ◌⊕◌, ◌∙∙◌, 𝟎, 𝟏, turn, inner, star, Linear}
 use Rattle.algebra.proofs.Turns.{turn_linear}
 use Rattle.algebra.proofs.Adjoints.{adjoint_cons}
@@ -45,7 +45,7 @@ adjoint_powered k y t h =
     ap (powered k) split
     ∙ powered_split k (y ∷ negative (reverse (drop k t))) (negative (reverse (take k t)))
     (length_negative (reverse (take k t)) ∙ length-reverse (take k t) ∙ length-take-le k t h)
-    ∙ rw (negative_negative (reverse (take k t)), reverse-cons y (take k t)) (sym (append_assoc (reverse (take k t)) (y ∷ []) (negative (reverse (drop k t)))))
+    ∙ rw (negative_negative (reverse (take k t)), reverse_cons y (take k t)) (sym (append_assoc (reverse (take k t)) (y ∷ []) (negative (reverse (drop k t)))))
 
 pub coefficient_is : (a b : List ℤ) (k : ℕ) → length a ≡ length b → k < length b → coefficient a b k ≡ dot a (powered k (adjoint b))
 unfolding coefficient crossed
@@ -155,7 +155,7 @@ inner_power {m} k v h = dot_power k m v.list h
 reverse_zeros : (n : ℕ) → reverse (replicate n (pos 0)) ≡ replicate n (pos 0)
 reverse_zeros zero = refl
 reverse_zeros (suc n) =
-    reverse-cons (pos 0) (replicate n (pos 0)) ∙ ap (λ (l : List ℤ). l ++ pos 0 ∷ []) (reverse_zeros n) ∙ replicate_more n (pos 0)
+    reverse_cons (pos 0) (replicate n (pos 0)) ∙ ap (λ (l : List ℤ). l ++ pos 0 ∷ []) (reverse_zeros n) ∙ replicate_more n (pos 0)
     ∙ ap (λ i. replicate i (pos 0)) (add-one n)
 
 pub star_one : {m : ℕ} → star 𝟏 ≡ 𝟏 {m = m}

@@ -34,7 +34,7 @@ Congruent d v w = (map (rest d) v.first ≡ map (rest d) w.first) × (map (rest 
 abbrev pub Determines : ℕ → Matrix → Type 0
 Determines n m = (v w : Pair) → PairOf n v → PairOf n w → Congruent 2 (applied m v) (applied m w) → Congruent 2 v w
 
--- the one matrix U with B' = U-as-B, and what it does
+-- the one matrix U with B' = U·B, and what it does
 pub record Joined (n : ℕ) (b b' : Basis) : Type 0 where
   pub by : Matrix
   pub by_size : MatrixOf n by

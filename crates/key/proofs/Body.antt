@@ -89,8 +89,8 @@ module _ (file : List ℕ) (s : Slip) (read : Read Key file s) (f g F G : List �
         small = rw (numbers i bytes words t) t.in_range;
       }
 
-  size_of_lem : (i : ℕ) (bytes : List ℕ) (words : List ℤ) → i ≤ 3 → Taken file i bytes words → length (numbers8 bytes) ≡ size_named file
-  size_of_lem i bytes words h t = ap length (numbers i bytes words t) ∙ length_numbers file s read i (omega arith)
+  section_size : (i : ℕ) (bytes : List ℕ) (words : List ℤ) → i ≤ 3 → Taken file i bytes words → length (numbers8 bytes) ≡ size_named file
+  section_size i bytes words h t = ap length (numbers i bytes words t) ∙ length_numbers file s read i (omega arith)
 
   pub fits_sections : first_failing (sound_tests (length fw) (basis fw gw Fw Gw)) ≡ None → Fits s.class (numbers8 f) (numbers8 g) (numbers8 F) (numbers8 G)
   fits_sections none =
@@ -98,15 +98,15 @@ module _ (file : List ℕ) (s : Slip) (read : Read Key file s) (f g F G : List �
       let n1 = numbers 1 g gw g-taken in
       let n2 = numbers 2 F Fw F-taken in
       let n3 = numbers 3 G Gw G-taken in
-      let l0 = size_of_lem 0 f fw (omega arith) f-taken in
+      let l0 = section_size 0 f fw (omega arith) f-taken in
       let words : FourWords (numbers8 f) (numbers8 g) (numbers8 F) (numbers8 G) = record {
         f_words = small 0 f fw (omega arith) f-taken;
         g_words = small 1 g gw (omega arith) g-taken;
         F_words = small 2 F Fw (omega arith) F-taken;
         G_words = small 3 G Gw (omega arith) G-taken;
-        g_long = size_of_lem 1 g gw (omega arith) g-taken ∙ sym l0;
-        F_long = size_of_lem 2 F Fw (omega arith) F-taken ∙ sym l0;
-        G_long = size_of_lem 3 G Gw (omega arith) G-taken ∙ sym l0;
+        g_long = section_size 1 g gw (omega arith) g-taken ∙ sym l0;
+        F_long = section_size 2 F Fw (omega arith) F-taken ∙ sym l0;
+        G_long = section_size 3 G Gw (omega arith) G-taken ∙ sym l0;
       } in
       let same = sound_is file s read (numbers8 f) (numbers8 g) (numbers8 F) (numbers8 G) n0 n1 n2 n3 in
       let same-words = sound_is file s read fw gw Fw Gw f-taken.words_are g-taken.words_are F-taken.words_are G-taken.words_are in
@@ -115,7 +115,7 @@ module _ (file : List ℕ) (s : Slip) (read : Read Key file s) (f g F G : List �
   element_is : (key : KeyPlace) (i : ℕ) (bytes : List ℕ) (words memory : List ℤ) → i ≤ 3 → Taken file i bytes words → key.class ≡ s.class → memory ≡ padded (numbers8 bytes) → front key.class memory ≡ numbers_in file i
   element_is key i bytes words memory h t class e =
       ap (front key.class) e
-      ∙ front_padded key.class (numbers8 bytes) (size_of_lem i bytes words h t ∙ read.size ∙ ap size_of (sym class))
+      ∙ front_padded key.class (numbers8 bytes) (section_size i bytes words h t ∙ read.size ∙ ap size_of (sym class))
       ∙ numbers i bytes words t
 
   held_basis : (key : KeyPlace) → Holds key s.class (numbers8 f) (numbers8 g) (numbers8 F) (numbers8 G) → basis_of key ≡ basis_in file

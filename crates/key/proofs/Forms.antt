@@ -24,7 +24,7 @@ all_back m (x ∷ xs) h = and_from (within m x) (all_within m xs) h.0 (all_back 
 -- a key in memory whose elements have the class's size
 module _ (key : Key) (f_size : length (basis_of key).f ≡ size_of key.class) (g_size : length (basis_of key).g ≡ size_of key.class)
     (F_size : length (basis_of key).F ≡ size_of key.class) (G_size : length (basis_of key).G ≡ size_of key.class) where
-  key_is : IsKey (size_of key.class) (basis_of key)
+  pub key_is : IsKey (size_of key.class) (basis_of key)
   key_is = record {
     f_size = f_size;
     g_size = g_size;

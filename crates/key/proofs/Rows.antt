@@ -11,7 +11,7 @@ use Rattle.ring.proofs.Exact.{same_adjoint, values_alike, exact_coefficient}
 use Rattle.ring.proofs.Firsts.{answers_work}
 use Rattle.ring.proofs.Places.{length_adjoint, length_product, length_sum, product_at, sum_at}
 use Rattle.ring.proofs.Sizes.{Bounded, bounded_reverse, abs_sum, abs_neg, coefficient_size, fits_word, fits_narrow}
-use Rattle.ring.specs.Words.{word_positive}
+use Rattle.ring.specs.Below.{word_positive}
 use Rattle.scheme.specs.Keys.{key_limit}
 use Rattle.key.specs.Making.{starred, FourElements}
 use Rattle.key.specs.Words.{SmallWords}

@@ -4,7 +4,7 @@ use Rattle.std.proofs.Common.{◌≡◌, ℕ, ◌-◌, ◌<◌, ◌≤◌, List,
 use Rattle.std.proofs.lemmas.List.{length-map}
 use Rattle.ring.specs.Elements.{sum, adjoint, turned}
 use Rattle.ring.specs.Kinds.{rest, values}
-use Rattle.ring.specs.Residues.{rest_small}
+use Rattle.ring.proofs.Residues.{rest_small}
 use Rattle.ring.proofs.Sums.{values_at}
 use Rattle.ring.proofs.Places.{sum_at, adjoint_first, adjoint_other, turned_front, turned_back}
 

@@ -4,9 +4,10 @@ use mathlib.Core.List.{reverse-cons}
 use Rattle.std.proofs.lemmas.List.{map_push, take-map, drop-map}
 use Rattle.ring.specs.Elements.{dot, crossed, coefficient, adjoint}
 use Rattle.ring.specs.Kinds.{rest, values, word_value}
-use Rattle.ring.specs.Residues.{same_sum, same_negative, same_product, rest_rest}
+use Rattle.ring.proofs.Residues.{same_sum, same_negative, same_product, rest_rest}
 use Rattle.ring.proofs.Sizes.{Bounded, coefficient_size, fits_word}
-use Rattle.ring.specs.Words.{word_positive, same_word}
+use Rattle.ring.specs.Below.{word_positive}
+use Rattle.ring.proofs.Words.{same_word}
 
 pub map_reverse : {X Y : Type 0} (f : X → Y) (xs : List X) → reverse (map f xs) ≡ map f (reverse xs)
 map_reverse f [] = refl

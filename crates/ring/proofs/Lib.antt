@@ -1,3 +1,5 @@
+pub mod Residues
+pub mod Words
 pub mod Bits
 pub mod Sums
 pub mod Tables

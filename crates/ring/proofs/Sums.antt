@@ -5,7 +5,7 @@ use lib.IntN.{+ℤ_assoc, +ℤ_idl, +ℤ_idr}
 use Rattle.std.proofs.lemmas.List.{get_or-map, get_or-reverse, length-map, length-reverse, take-map, drop-map, take_rest}
 use Rattle.ring.specs.Elements.{dot, crossed, coefficient}
 use Rattle.ring.specs.Kinds.{rest, values}
-use Rattle.ring.specs.Residues.{sum_of, negative_of, rest_small}
+use Rattle.ring.proofs.Residues.{sum_of, negative_of, rest_small}
 
 pub dot_more : (a b : List ℤ) (i : ℕ) → i < length a → i < length b → dot (take (suc i) a) (take (suc i) b) ≡ dot (take i a) (take i b) +ℤ get_or a i (pos 0) *ℤ get_or b i (pos 0)
 unfolding dot

@@ -4,5 +4,4 @@ pub mod Elements
 pub mod Kinds
 pub mod Calls
 pub mod Wide
-pub mod Residues
-pub mod Words
+pub mod Below

@@ -1,8 +1,7 @@
 // Kinds of number: what an element's coefficients are made of.
 ghost use Rattle.std.specs.Prelude.{◌≡◌, ℕ, ◌^◌, ◌<◌, ◌≤◌, pos, ◌+ℤ◌, ◌*ℤ◌, neg_ℤ};
 ghost use Rattle.ring.specs.Kinds.{rest, bit_value, word_value};
-ghost use Rattle.ring.specs.Residues.{rest_below};
-ghost use Rattle.ring.specs.Words.{word_positive};
+ghost use Rattle.ring.specs.Below.{rest_below, word_positive};
 ghost use Rattle.std.proofs.Common.{rules};
 
 // A kind of number. A number means its residue modulo the kind's modulus, and each operation gives

@@ -1,5 +1,5 @@
 // A strip turned by k reads X^k times an element out of lent numbers, without copying.
-ghost use Rattle.std.specs.Prelude.{◌≡◌, ◌&&◌, [], ◌∷◌, length, pos, slice_index_or};
+ghost use Rattle.std.specs.Prelude.{◌≡◌, [], ◌∷◌, length, pos, slice_index_or};
 ghost use Rattle.ring.specs.Calls.{length_test1, range_test};
 ghost use Rattle.ring.specs.Elements.{turned as turned_of};
 ghost use Rattle.ring.specs.Faults.{Answers, ring_fault};

@@ -7,7 +7,7 @@ use Rattle.std.proofs.ByRecursion.{All-get_or}
 use Rattle.std.proofs.lemmas.List.{ext_get_or, get_or-map}
 use Rattle.std.proofs.lemmas.Bool.{cases_lt}
 use Rattle.ring.specs.Kinds.{rest}
-use Rattle.ring.specs.Residues.{rest_small}
+use Rattle.ring.proofs.Residues.{rest_small}
 use Rattle.scheme.specs.Hashes.{hash_bit, hash_pair}
 use Rattle.algebra.specs.Isometries.{Congruent}
 

@@ -9,7 +9,7 @@ use Rattle.std.proofs.lemmas.List.{length-map}
 use Rattle.std.proofs.lemmas.Bool.{eqb-true, cond-true, cond-false, cases_Bool}
 use Rattle.std.proofs.lemmas.Bool.Decides.{same_from_decides, Decides-like}
 use Rattle.ring.specs.Kinds.{rest}
-use Rattle.ring.specs.Residues.{rest_rest}
+use Rattle.ring.proofs.Residues.{rest_rest}
 use Rattle.scheme.specs.Keys.{Basis, IsKey, Within}
 use Rattle.scheme.specs.Matrices.{Pair, PairOf, applied, basis_of, magnitudes}
 use Rattle.scheme.specs.Pairs.{pair_from, numbers_of, parities}

@@ -7,7 +7,7 @@ use Rattle.ring.specs.Kinds.{rest, values, bit_value}
 use Rattle.ring.specs.declared.kind.Bit.{Bit}
 use Rattle.ring.proofs.Exact.{same_coefficient, values_alike}
 use Rattle.ring.proofs.Places.{length_product, length_sum, product_at, sum_at}
-use Rattle.ring.specs.Residues.{same_sum, sum_of}
+use Rattle.ring.proofs.Residues.{same_sum, sum_of}
 use Rattle.scheme.specs.Hashes.{hash_bit, hash_pair}
 use Rattle.scheme.specs.Keys.{Basis}
 use Rattle.scheme.specs.Matrices.{applied, basis_of}

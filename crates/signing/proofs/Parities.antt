@@ -2,7 +2,8 @@
 use Rattle.std.proofs.Common.{◌≡◌, ℕ, zero, suc, ◌/◌, ◌%◌, ◌^◌, ◌<◌, cond, eqb, List, get_or, ℤ, pos, negsuc, nat_abs, sym, refl, ap, ◌∙◌, mod-lt, arith, lit<, w64, of_z}
 use Rattle.std.specs.Int.{int_rem_euclid}
 use Rattle.ring.specs.Kinds.{rest}
-use Rattle.ring.specs.Residues.{rest_below, rest_small}
+use Rattle.ring.specs.Below.{rest_below}
+use Rattle.ring.proofs.Residues.{rest_small}
 use Rattle.scheme.specs.Hashes.{hash_bit}
 
 bit_back : (k : ℕ) → k < 2 → cond (eqb k 1) 1 0 ≡ k

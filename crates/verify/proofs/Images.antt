@@ -11,7 +11,7 @@ use Rattle.ring.proofs.Exact.{values_alike, exact_coefficient}
 use Rattle.ring.proofs.Places.{length_product, length_sum, product_at, sum_at}
 use Rattle.ring.proofs.Sizes.{Bounded, abs_sum, abs_product, coefficient_size, fits_word}
 use Rattle.ring.proofs.Sums.{dot_more}
-use Rattle.ring.specs.Words.{rest_wrapped}
+use Rattle.ring.proofs.Words.{rest_wrapped}
 use Rattle.scheme.specs.Keys.{within, all_within, form_limit}
 use Rattle.scheme.specs.Verdicts.{image_limit}
 use Rattle.key.proofs.Ranges.{bounded_from}

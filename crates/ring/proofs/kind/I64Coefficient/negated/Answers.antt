@@ -1,7 +1,7 @@
 use Rattle.std.proofs.Common.{◌≡◌, neg_ℤ, w64, SFits, rules}
 use Rattle.std.specs.Int.{int_wrap}
 use Rattle.std.proofs.lemmas.Int.{to_z-of_z, wraps}
-use Rattle.ring.specs.Words.{word_negated}
+use Rattle.ring.proofs.Words.{word_negated}
 use Rattle.ring.proofs.kind.I64Coefficient.negated.Goals as goal
 
 pub returns : goal.returns

@@ -1,6 +1,6 @@
 use Rattle.std.proofs.lemmas.Int.{wrapping_mul_is}
 use Rattle.std.proofs.Common.{w64}
-use Rattle.ring.specs.Words.{word_times}
+use Rattle.ring.proofs.Words.{word_times}
 use Rattle.ring.proofs.kind.I64Coefficient.times.Goals as goal
 
 pub returns : goal.returns

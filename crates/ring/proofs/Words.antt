@@ -5,10 +5,8 @@ use mir.Val.{to_z, sel}
 use Rattle.std.specs.Int.{int_wrap, w64}
 use Rattle.std.proofs.lemmas.Int.{int_wrap_fits}
 use Rattle.ring.specs.Kinds.{rest}
-use Rattle.ring.specs.Residues.{rest_below, Differ, differ_same, rest_rest, sum_of, negative_of, product_of_lem}
-
-pub word_positive : 0 < 2 ^ 64
-word_positive = lit< tt
+use Rattle.ring.specs.Below.{rest_below, word_positive}
+use Rattle.ring.proofs.Residues.{Differ, differ_same, rest_rest, sum_of, negative_of, product_of}
 
 read_differs : (n : ℕ) → n < 2 ^ 64 → Differ (2 ^ 64) (to_z w64 n) (pos n)
 read_differs n h = go (nat_lt n (2 ^ 63))
@@ -36,4 +34,4 @@ pub word_negated : (a : ℤ) → rest (2 ^ 64) (int_wrap w64 (neg_ℤ a)) ≡ re
 word_negated a = rest_wrapped (neg_ℤ a) ∙ sym (negative_of (2 ^ 64) _ _ a word_positive refl refl)
 
 pub word_times : (a b : ℤ) → rest (2 ^ 64) (int_wrap w64 (a *ℤ b)) ≡ rest (2 ^ 64) (pos (rest (2 ^ 64) a) *ℤ pos (rest (2 ^ 64) b))
-word_times a b = rest_wrapped (a *ℤ b) ∙ sym (product_of_lem (2 ^ 64) _ _ _ a b word_positive refl refl refl)
+word_times a b = rest_wrapped (a *ℤ b) ∙ sym (product_of (2 ^ 64) _ _ _ a b word_positive refl refl refl)

@@ -5,15 +5,11 @@ use Rattle.std.proofs.Math.Nat.{add-mul-mod_self_right}
 use Rattle.std.proofs.Math.IntN.{*ℤ_comm}
 use borrow.Author.Differences.{up, down, sum_is_lem, neg_is, product_is}
 use Rattle.ring.specs.Kinds.{rest}
+use Rattle.ring.specs.Below.{rest_below}
 
 -- x and y differ by a multiple of m
 abbrev pub Differ : ℕ → ℤ → ℤ → Type 0
 Differ m x y = (p : ℕ) × (q : ℕ) × (up x + down y + p * m ≡ up y + down x + q * m)
-
-pub rest_below : (m : ℕ) (z : ℤ) → 0 < m → rest m z < m
-unfolding rest
-rest_below m (pos a) h = mod-lt a h
-rest_below m (negsuc a) h = omega (arith, mod-lt a h)
 
 pub rest_differs : (m : ℕ) (z : ℤ) → 0 < m → Differ m (pos (rest m z)) z
 unfolding rest
@@ -77,8 +73,8 @@ sum_of m r s t x y h e p q =
 pub negative_of : (m r s : ℕ) (x : ℤ) → 0 < m → r ≡ rest m (neg_ℤ (pos s)) → s ≡ rest m x → r ≡ rest m (neg_ℤ x)
 negative_of m r s x h e p = e ∙ rw p (differ_same m _ _ h (differ_neg m (pos (rest m x)) x (rest_differs m x h)))
 
-pub product_of_lem : (m r s t : ℕ) (x y : ℤ) → 0 < m → r ≡ rest m (pos s *ℤ pos t) → s ≡ rest m x → t ≡ rest m y → r ≡ rest m (x *ℤ y)
-product_of_lem m r s t x y h e p q =
+pub product_of : (m r s t : ℕ) (x y : ℤ) → 0 < m → r ≡ rest m (pos s *ℤ pos t) → s ≡ rest m x → t ≡ rest m y → r ≡ rest m (x *ℤ y)
+product_of m r s t x y h e p q =
     e ∙ rw (p, q) (differ_same m _ _ h (differ_product m (pos (rest m x)) x (pos (rest m y)) y (rest_differs m x h) (rest_differs m y h)))
 
 -- equal residues pass through the operations
