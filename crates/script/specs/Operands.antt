@@ -1,7 +1,6 @@
 -- Decimal numbers, and samples as bytes. Assumes nothing.
 use Rattle.std.specs.Prelude.{ℕ, ◌+◌, ◌-◌, ◌*◌, ◌%◌, Bool, cond, ◌&&◌, List, [], ◌∷◌, length, ℤ, Some, None, Option, ◌==◌, nat_le, nat_lt}
-use Rattle.std.specs.Int.{w16}
-use Rattle.std.proofs.Common.{to_z}
+use Rattle.std.specs.Int.{w16, cast_signed}
 use Rattle.std.specs.Char.{is_ascii_digit}
 use Rattle.script.specs.Hexadecimal.{every, by_twos}
 
@@ -20,7 +19,7 @@ number_in most text = cond (is_decimal text && nat_le (followed 0 text) most) (S
 
 -- a signed number in two bytes, highest byte first
 abbrev pub number16 : ℕ → ℕ → ℤ
-number16 high low = to_z w16 (high * 256 + low)
+number16 high low = cast_signed w16 (high * 256 + low)
 
 -- the numbers of a sample, where the number of bytes is even
 unfoldable pub sample_in : List ℕ → Option (List ℤ)

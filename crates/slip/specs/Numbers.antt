@@ -1,7 +1,6 @@
 -- Signed numbers as bytes, highest byte first. Assumes nothing.
 use Rattle.std.specs.Prelude.{ℕ, ◌*◌, ◌/◌, ◌%◌, List, [], ◌∷◌, ◌++◌, map, length, ℤ}
-use Rattle.std.specs.Int.{w8, w32}
-use Rattle.std.proofs.Common.{of_z, to_z}
+use Rattle.std.specs.Int.{w8, w32, cast_signed, cast_unsigned}
 use Rattle.std.specs.List.{range_with_len}
 use Rattle.slip.specs.Slips.{at32}
 
@@ -14,18 +13,18 @@ split32 v = (v / 16777216 % 256) ∷ (v / 65536 % 256) ∷ (v / 256 % 256) ∷ (
 
 -- numbers in one and in four bytes each
 unfoldable pub bytes8 : List ℤ → List ℕ
-bytes8 numbers = map (of_z w8) numbers
+bytes8 numbers = map (cast_unsigned w8) numbers
 
 unfoldable pub bytes32 : List ℤ → List ℕ
 bytes32 [] = []
-bytes32 (z ∷ numbers) = split32 (of_z w32 z) ++ bytes32 numbers
+bytes32 (z ∷ numbers) = split32 (cast_unsigned w32 z) ++ bytes32 numbers
 
 -- the numbers that bytes stand for, with one and with four bytes each
 unfoldable pub numbers8 : List ℕ → List ℤ
-numbers8 bytes = map (to_z w8) bytes
+numbers8 bytes = map (cast_signed w8) bytes
 
 unfoldable pub number32 : List ℕ → ℕ → ℤ
-number32 bytes k = to_z w32 (at32 bytes (4 * k))
+number32 bytes k = cast_signed w32 (at32 bytes (4 * k))
 
 unfoldable pub numbers32 : List ℕ → List ℤ
 numbers32 bytes = map (number32 bytes) (range_with_len 0 (length bytes / 4))
