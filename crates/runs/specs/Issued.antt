@@ -1,9 +1,8 @@
 -- The signatures that a run issues. Assumes nothing.
-use Rattle.std.specs.Prelude.{◌≡◌, ℕ, ◌<◌, Bool, List, [], ◌∷◌, ◌++◌, map, ℤ, ◌≢◌}
+use Rattle.std.specs.Prelude.{◌≡◌, ℕ, ◌<◌, List, [], ◌∷◌, ◌++◌, map, ℤ, ◌≢◌}
 use Rattle.std.specs.List.{AllByRecursion}
 use Rattle.ring.specs.Classes.{size_of}
 use Rattle.ring.specs.declared.class.Class.{Class}
-use Rattle.ring.specs.declared.fault.Fault.{Fault}
 use Rattle.scheme.specs.Keys.{Basis, form_of, Within}
 use Rattle.scheme.specs.Pairs.{pair_from}
 use Rattle.scheme.specs.Sessions.{State, Call, announce, target, sign, withdraw, count, Answer, refused, ordered, aimed, signed, withdrawn, counted, Step, Event}

@@ -1,5 +1,7 @@
 // Whole runs of sessions: what every list of calls keeps, and that none shows which of two keys with one form a
 // session holds. The functions here do nothing: their contracts are the theorems, and specs/ says each in full.
+#![tactic(auto)]
+
 ghost use Rattle.runs.specs.Sealed.{SessionsAreLawful, KeysStayHidden, SessionsAreSealed};
 
 /// Every issued signature is accepted, no hash gets two signatures, and no two hashes are signed with one sample.

@@ -5,7 +5,7 @@ use Rattle.std.proofs.ByRecursion.{All-get_or}
 use Rattle.std.proofs.lemmas.List.{take_all}
 use Rattle.std.proofs.lemmas.Int.{to_z-of_z, int_wrap_fits}
 use Rattle.std.proofs.lemmas.Bool.{leb-true}
-use Rattle.ring.specs.Elements.{dot, coefficient, product, sum}
+use Rattle.ring.specs.Elements.{dot, coefficient, product}
 use Rattle.ring.specs.Kinds.{rest, values, word_value}
 use Rattle.ring.proofs.Exact.{values_alike, exact_coefficient}
 use Rattle.ring.proofs.Places.{length_product, length_sum, product_at, sum_at}

@@ -1,11 +1,11 @@
 -- What the verdict means for the keys that have the form: by the theorems on acceptance.
-use Rattle.std.proofs.Common.{◌≡◌, ℕ, ◌*◌, true, List, ◌∷◌, ℤ, pos, Some, None, Ok, Err, Option, Result, sym, refl, ap, ◌∙◌, subst, arith}
+use Rattle.std.proofs.Common.{◌≡◌, ℕ, ◌*◌, true, List, ◌∷◌, ℤ, pos, Some, None, Ok, Err, Option, Result, sym, ap, ◌∙◌, arith}
 use Rattle.ring.specs.Classes.{size_of, bound_of}
 use Rattle.ring.specs.Faults.{Answers, test, first_failing}
 use Rattle.ring.specs.declared.class.Class.{Class}
 use Rattle.ring.specs.declared.fault.Fault.{Fault}
 use Rattle.ring.proofs.Firsts.{none_parts}
-use Rattle.scheme.specs.Keys.{Basis, Gram, form_of, all_within}
+use Rattle.scheme.specs.Keys.{Gram, form_of, all_within}
 use Rattle.scheme.specs.Pairs.{up_to}
 use Rattle.scheme.specs.Refusals.{check_fault}
 use Rattle.scheme.specs.Verdicts.{signature_limit, Accepted, length_under, point_of, verdict_tests, verify_sizes, verify_tests}

@@ -1,5 +1,5 @@
 -- The tests of verification, put together.
-use Rattle.std.proofs.Common.{◌≡◌, ℕ, ◌-◌, ◌*◌, ◌≤◌, Bool, true, false, ◌&&◌, eqb, List, ◌∷◌, length, take, drop, ℤ, pos, Some, None, Ok, Err, Result, sym, refl, ap, ◌∙◌, arith, w64, SFits, to_z, of_z}
+use Rattle.std.proofs.Common.{◌≡◌, ℕ, ◌-◌, ◌*◌, Bool, true, false, ◌&&◌, eqb, List, length, take, drop, ℤ, pos, Some, None, Ok, Err, Result, sym, ap, ◌∙◌, arith, w64, SFits, to_z, of_z}
 use native.Mathlib.Nat.{sub-zero}
 use Rattle.std.proofs.ByRecursion.{All-take, All-drop}
 use Rattle.std.proofs.lemmas.List.{length-take-le, length-drop, take_rest}

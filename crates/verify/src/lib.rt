@@ -1,4 +1,6 @@
 // Verification: the verdict on a signature under a form.
+#![tactic(auto)]
+
 mod image;
 mod point;
 mod verdict;

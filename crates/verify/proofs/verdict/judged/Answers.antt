@@ -1,4 +1,4 @@
-use Rattle.std.proofs.Common.{◌≡◌, length, sym, ap, ◌∙◌, arith, w64, SFits, rules}
+use Rattle.std.proofs.Common.{sym, ap, ◌∙◌, arith, w64, SFits, rules}
 use Rattle.ring.specs.Classes.{size_of}
 use Rattle.ring.specs.Faults.{first_failing}
 use Rattle.scheme.specs.Pairs.{pair}
