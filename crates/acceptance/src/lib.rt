@@ -6,22 +6,16 @@ ghost use Rattle.acceptance.specs.Limits.{LimitsNeverRefuse};
 ghost use Rattle.acceptance.specs.Issuing.{IssuedIsAccepted, AcceptedIsAlwaysIssued};
 
 /// Under a key's form the limits on s and u refuse nothing whose squared length is at most L.
-pub fn limits_kept() -> u8
+pub fn limits_kept()
     ensures { LimitsNeverRefuse }
-{
-    0
-}
+{}
 
 /// A signature that a key makes of a sample is accepted under its form, with the sample's squared length.
-pub fn issued_is_accepted() -> u8
+pub fn issued_is_accepted()
     ensures { IssuedIsAccepted }
-{
-    0
-}
+{}
 
 /// An accepted signature is issued for exactly two samples, each the other's negative, and a refused one for none.
-pub fn accepted_is_issued() -> u8
+pub fn accepted_is_issued()
     ensures { AcceptedIsAlwaysIssued }
-{
-    0
-}
+{}

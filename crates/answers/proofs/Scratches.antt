@@ -1,24 +1,30 @@
 -- A scratch of the right length, and what is written then.
-use Rattle.std.proofs.Common.{◌≡◌, ℕ, ◌*◌, List, [], ◌∷◌, ◌++◌, Some, None, Option, sym, refl, ap, ◌∙◌, arith}
+use Rattle.std.proofs.Common.{◌≡◌, ℕ, ◌*◌, List, [], ◌∷◌, ◌++◌, Some, None, Option, Ok, Err, Result, MatchResult, sym, refl, ap, ◌∙◌, arith}
 use Rattle.std.proofs.lemmas.Bool.{eqb-true, eq-eqb}
 use Rattle.ring.specs.Classes.{size_of}
-use Rattle.ring.specs.Faults.{first_failing}
+use Rattle.ring.specs.Faults.{Answers, first_failing}
 use Rattle.ring.specs.declared.class.Class.{Class}
 use Rattle.ring.specs.declared.fault.Fault.{Fault}
 use Rattle.ring.proofs.Firsts.{none_after, none_parts, first_before}
 use Rattle.scheme.specs.Keys.{Gram, form_of}
 use Rattle.slip.specs.Slips.{slip_tests, class_named, size_named}
 use Rattle.slip.specs.declared.kind.Kind.TheVariants.{Key}
+use Rattle.slip.specs.declared.fault.SlipFault.{SlipFault}
+use Rattle.slip.specs.declared.reader.Slip.{Slip}
+use Rattle.slip.specs.Reads.{Read}
+use Rattle.slip.specs.Refusals.{slip_fault}
 use Rattle.key.specs.Loading.{basis_in, scratch_test, body_tests, key_tests}
 use Rattle.answers.specs.Lines.{form_line, refusal_line, measure_line}
+
+-- where the slip was read, the size of its class
+pub size_read : (file : List ℕ) (r : Result Slip SlipFault) (size : ℕ) → Answers slip_fault (slip_tests Key file) (λ s. Read Key file s) r
+    → MatchResult r (λ s. size ≡ size_of s.class) (λ _. size ≡ 0) → first_failing (slip_tests Key file) ≡ None → size ≡ size_named file
+size_read file (Ok s) size answer is passes = is ∙ sym answer.1.size
+size_read file (Err e) size answer is passes = cc
 
 pub size_is : (file : List ℕ) (class : Class) → class_named file ≡ Some class → size_named file ≡ size_of class
 unfolding size_named
 size_is file class e = rw e
-
-pub slip_passes : (file : List ℕ) (words : ℕ) → first_failing (key_tests file words) ≡ None → first_failing (slip_tests Key file) ≡ None
-unfolding key_tests
-slip_passes file words none = (none_after (slip_tests Key file) (scratch_test (size_named file) words ∷ body_tests file) none).0
 
 pub right_length : (file : List ℕ) (words : ℕ) → first_failing (key_tests file words) ≡ None → words ≡ 4 * size_named file
 unfolding key_tests

@@ -5,19 +5,10 @@ use Rattle.ring.specs.Classes.{code_of, size_of}
 use Rattle.ring.specs.Faults.{first_failing}
 use Rattle.ring.specs.declared.class.Class.{Class}
 use Rattle.ring.specs.declared.fault.Fault.{Fault}
-use Rattle.ring.specs.declared.fault.Layer.{Layer}
-use Rattle.ring.specs.declared.fault.Layer.TheVariants.{Ring, Slip, Key, Form, Session, Check}
+pub use Rattle.ring.specs.Texts.{layer_name}
 use Rattle.scheme.specs.Keys.{Gram, form_of}
 use Rattle.slip.specs.Slips.{class_named, size_named}
 use Rattle.key.specs.Loading.{basis_in, key_tests}
-
-abbrev pub layer_name : Layer → List ℕ
-layer_name Ring = codes "ring"
-layer_name Slip = codes "slip"
-layer_name Key = codes "key"
-layer_name Form = codes "form"
-layer_name Session = codes "session"
-layer_name Check = codes "check"
 
 -- refused NUMBER LAYER PLACE
 abbrev pub refusal_line : Fault → List ℕ

@@ -1,8 +1,6 @@
 // What `measure` answers: the constants of the form of a key.
-ghost use Rattle.std.specs.Prelude.{◌≡◌, ◌*◌, ◌≤◌, length, take, IfOk, None, string_bytes};
-ghost use Rattle.ring.specs.Faults.{Answers, first_failing};
-ghost use Rattle.slip.specs.Slips.{slip_tests, size_named};
-ghost use Rattle.slip.specs.declared.kind.Kind.TheVariants.{Key as KeyKind};
+ghost use Rattle.std.specs.Prelude.{◌≡◌, length, take, IfOk, string_bytes};
+ghost use Rattle.ring.specs.Faults.{Answers};
 ghost use Rattle.key.specs.Gramheld.{gram_of};
 ghost use Rattle.key.specs.Loading.{key_tests};
 ghost use Rattle.key.specs.Refusals.{key_fault};
@@ -16,17 +14,6 @@ use std::alloc::{AllocError, Global};
 
 // The bytes of a file at most.
 const LIMIT: usize = 65536;
-
-// n of the class that a key slip names, or 0 where the file is no key slip.
-fn size_named(file: &[u8]) -> usize
-    ensures known { first_failing (slip_tests KeyKind file.now) ≡ None → result ≡ size_named file.now }
-    ensures bound { result ≤ 1024 }
-{
-    match Slip::read(file, Kind::Key) {
-        Ok(slip) => slip.class().size(),
-        Err(_) => 0,
-    }
-}
 
 // The form of the key in a file.
 fn form_in(file: &[u8], scratch: &mut [i64]) -> Result<Form, KeyFault>
@@ -53,9 +40,11 @@ fn form_line(heap: Global, form: &Form) -> Result<String, AllocError>
 pub fn measure(heap: Global, input: &[u8]) -> Result<String, AllocError>
     ensures { IfOk result (λ t. string_bytes t ≡ measure_line (take file_limit input.now)) }
 {
-    let file = &input[0..input.len().min(LIMIT)];
-    let mut words = vec![in heap; 0i64; 4 * size_named(file)]?;
-    match form_in(file, words.as_mut_slice()) {
+    let file = &input[..input.len().min(LIMIT)];
+    // A file that is no key slip is refused whatever its scratch.
+    let size = Slip::read(file, Kind::Key).map_or(0, |slip| slip.class().size());
+    let mut scratch = vec![in heap; 0i64; 4 * size]?;
+    match form_in(file, scratch.as_mut_slice()) {
         Ok(form) => form_line(heap, &form),
         Err(fault) => refusal_line(heap, fault.into()),
     }

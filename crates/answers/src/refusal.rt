@@ -9,22 +9,12 @@ use std::alloc::{AllocError, Global};
 pub fn layer_name(layer: Layer) -> &'static str
     ensures { result.now ≡ layer_name layer }
 {
-    match layer {
-        Layer::Ring => "ring",
-        Layer::Slip => "slip",
-        Layer::Key => "key",
-        Layer::Form => "form",
-        Layer::Session => "session",
-        Layer::Check => "check",
-    }
+    layer.name()
 }
 
 // `refused NUMBER LAYER PLACE` and a newline.
 pub fn refusal_line(heap: Global, fault: Fault) -> Result<String, AllocError>
     ensures { IfOk result (λ t. string_bytes t ≡ refusal_line fault) }
 {
-    let number = fault.number;
-    let layer = layer_name(fault.layer);
-    let place = fault.place;
-    format!(in heap; "refused {number} {layer} {place}\n")
+    format!(in heap; "refused {fault}\n")
 }

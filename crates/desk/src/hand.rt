@@ -1,8 +1,10 @@
-// Calls with the order in hand.
+// Calls with any order in hand, so that session and hand stand apart: it may be another session's order. `Desk` is the
+// type whose hand is its own; here that is a clause, `own`. That key and log stay is a relation of before and after,
+// which no type says: each public call says it, in clauses that keep their names.
 ghost use Rattle.std.specs.Prelude.{◌≡◌, true, length, replicate, pos, Some, None};
 ghost use Rattle.scheme.specs.Sessions.{announce as announce_call, target as target_call, sign as sign_call, withdraw as withdraw_call, aimed, signed, withdrawn};
 ghost use Rattle.scheme.specs.Steps.{with_order};
-ghost use Rattle.session.specs.Held.{state_of, step_of};
+ghost use Rattle.session.specs.Held.{SameLoans, state_of, step_of};
 ghost use Rattle.desk.specs.Hands.{matched, numbered, hand_answer, hand_state, takes, by_hand, answered, leaves, unspent};
 
 use key::Guard;
@@ -16,7 +18,7 @@ fn put(hand: &mut Option<Order>, order: Order)
 {
     match hand.replace(order) {
         None => {}
-        Some(_) => unreachable(),
+        Some(_) => unreachable!(),
     }
 }
 
@@ -24,12 +26,11 @@ fn put(hand: &mut Option<Order>, order: Order)
 fn undo(session: &mut Session<'_, '_>, order: Order)
     requires { matched (Some order) (state_of session.old) ≡ true }
     ensures state { state_of session.new ≡ with_order (state_of session.old) None }
-    ensures key { session.new.key.now ≡ session.old.key.now }
-    ensures lender { session.new.log.ghost_name ≡ session.old.log.ghost_name }
+    ensures loans { SameLoans session.old session.new }
 {
     match session.withdraw(order) {
         Ok(()) => {}
-        Err(_) => unreachable(),
+        Err(_) => unreachable!(),
     }
 }
 
@@ -96,9 +97,7 @@ pub fn sign(
     ensures lender { session.new.log.ghost_name ≡ session.old.log.ghost_name }
 {
     let guard = Guard { words: scratch };
-    let Some(order) = hand.take() else {
-        return None;
-    };
+    let order = hand.take()?;
     match session.sign(order, sample, area, guard.words) {
         Ok(answer) => Some(Ok(answer)),
         Err(Returned { fault, order }) => {
@@ -120,9 +119,7 @@ pub fn withdraw(
     ensures key { session.new.key.now ≡ session.old.key.now }
     ensures lender { session.new.log.ghost_name ≡ session.old.log.ghost_name }
 {
-    let Some(order) = hand.take() else {
-        return None;
-    };
+    let order = hand.take()?;
     match session.withdraw(order) {
         Ok(()) => Some(Ok(())),
         Err(Returned { fault, order }) => {
@@ -141,9 +138,7 @@ pub fn close(session: &mut Session<'_, '_>, hand: Option<Order>) -> Option<Order
     ensures key { session.new.key.now ≡ session.old.key.now }
     ensures lender { session.new.log.ghost_name ≡ session.old.log.ghost_name }
 {
-    let Some(order) = hand else {
-        return None;
-    };
+    let order = hand?;
     match session.withdraw(order) {
         Ok(()) => None,
         Err(Returned { fault: _, order }) => Some(order),

@@ -1,75 +1,49 @@
-ghost use Rattle.std.specs.Prelude.{◌≡◌, true};
-ghost use Rattle.session.specs.Held.{state_of};
-ghost use Rattle.desk.specs.Hands.{matched};
-
 use crate::*;
 use key::Key;
 use ring::Fault;
 use scheme::SessionFault;
-use session::{Order, Session};
+use session::Session;
 
-// The refusal's number, or 0.
-fn refusal<T: Drop>(answer: Result<T, SessionFault>) -> u8 {
+// An error is the refusal's number.
+fn refusal<T: Drop>(answer: Result<T, SessionFault>) -> Result<(), u8> {
     match answer {
-        Ok(_) => 0,
-        Err(fault) => {
-            let fault: Fault = fault.into();
-            fault.number
-        }
-    }
-}
-
-// The same with 99 for an empty hand.
-fn by_hand<T: Drop>(answer: Option<Result<T, SessionFault>>) -> u8 {
-    match answer {
-        None => 99,
-        Some(answer) => refusal(answer),
-    }
-}
-
-// Closes with an order that stands, or with none: nothing is given back.
-fn end(session: &mut Session<'_, '_>, hand: Option<Order>)
-    requires { matched hand (state_of session.old) ≡ true }
-{
-    match close(session, hand) {
-        None => {}
-        Some(_) => unreachable(),
+        Ok(_) => Ok(()),
+        Err(fault) => Err(Fault::from(fault).number),
     }
 }
 
 // Each byte as a hash, announced and withdrawn.
-fn serve(session: &mut Session<'_, '_>, hashes: &[u8]) {
-    let mut hand = None;
-    for k in 0..hashes.len() {
-        let _ = withdraw(session, &mut hand);
-        let _ = announce(session, &mut hand, &hashes[k..k + 1]);
+fn serve<'k, 'l>(session: Session<'k, 'l>, hashes: &[u8]) -> Session<'k, 'l> {
+    let mut desk = Desk::new(session);
+    for hash in hashes {
+        let _ = desk.withdraw();
+        let _ = desk.announce(&[*hash]);
     }
-    end(session, hand);
+    desk.close()
 }
 
 #[test]
 fn one_order(rt: HostRuntime) {
     let key = Key::resting();
     let mut log = [7u8; 2];
-    let mut session = Session::open(&key, &mut log);
-    serve(&mut session, &[1, 2, 3]);
-    let mut hand = None;
-    let idle = by_hand(withdraw(&mut session, &mut hand));
-    let short = refusal(announce(&mut session, &mut hand, &[]));
-    let first = refusal(announce(&mut session, &mut hand, &[0x11]));
-    let second = refusal(announce(&mut session, &mut hand, &[0x12]));
+    let session = serve(Session::open(&key, &mut log), &[1, 2, 3]);
+    let mut desk = Desk::new(session);
+    let idle = desk.withdraw().map(refusal);
+    let short = refusal(desk.announce(&[]));
+    let first = refusal(desk.announce(&[0x11]));
+    let second = refusal(desk.announce(&[0x12]));
     let mut area = [5u8; 8];
-    let aimed = by_hand(target(&mut session, &hand, &mut area, &mut [9; 16]));
-    let refused = by_hand(sign(&mut session, &mut hand, &[0; 8], &mut [0; 8], &mut [9; 15]));
-    let standing = session.count().standing;
-    end(&mut session, hand);
-    assert_eq!(rt; idle, 99);
-    assert_eq!(rt; short, 1);
-    assert_eq!(rt; first, 0);
-    assert_eq!(rt; second, 20);
-    assert_eq!(rt; aimed, 0);
+    let aimed = desk.target(&mut area, &mut [9; 16]).map(refusal);
+    let refused = desk.sign(&[0; 8], &mut [0; 8], &mut [9; 15]).map(refusal);
+    let standing = desk.session.count().standing;
+    let session = desk.close();
+    assert_eq!(rt; idle, None);
+    assert_eq!(rt; short, Err(1));
+    assert_eq!(rt; first, Ok(()));
+    assert_eq!(rt; second, Err(20));
+    assert_eq!(rt; aimed, Some(Ok(())));
     assert!(rt; area[0] < 2);
-    assert_eq!(rt; refused, 1);
+    assert_eq!(rt; refused, Some(Err(1)));
     assert_eq!(rt; standing, true);
     assert_eq!(rt; session.count().standing, false);
 }

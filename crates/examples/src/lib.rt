@@ -5,8 +5,6 @@
 ghost use Rattle.examples.specs.Worked.{WorkedExamples};
 
 /// Forms, targets, signatures, verdicts and refusals that were worked out by hand.
-pub fn worked_examples() -> u8
+pub fn worked_examples()
     ensures { WorkedExamples }
-{
-    0
-}
+{}

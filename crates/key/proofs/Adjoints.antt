@@ -1,67 +1,68 @@
 -- Elements that are their own adjoints, and the first power at which one is not.
-use Rattle.std.proofs.Common.{◌≡◌, ℕ, ◌+◌, ◌-◌, ◌<◌, ◌≤◌, true, List, length, get_or, drop, ℤ, pos, ◌-ℤ◌, neg_ℤ, nat_abs, sym, ap, ◌∙◌, arith, w32, SFits, to_z, of_z}
-use lib.IntN.{+ℤ_idl}
-use Rattle.std.specs.List.{prefix_len}
+use Rattle.std.proofs.Common.{◌≡◌, ℕ, ◌<◌, ◌≤◌, true, false, List, map, length, get_or, ℤ, pos, nat_abs, Some, None, Option, MatchOption, FitsSigned, sym, ap, ◌∙◌, arith, w64}
+use Rattle.std.specs.List.{prefix_len, zip, AllWithin, HoldsAt}
 use Rattle.std.proofs.ByRecursion.{All-get_or}
-use Rattle.std.proofs.lemmas.List.{at_drop_all}
-use Rattle.std.proofs.lemmas.Int.{to_z-of_z}
-use Rattle.std.proofs.lemmas.List.Sums.{prefix_len-drop_yes, prefix_len-drop_no}
+use Rattle.std.proofs.lemmas.List.{get_or-map, length-map}
+use Rattle.std.proofs.lemmas.List.Sums.{prefix_len_is}
+use Rattle.std.proofs.lemmas.Slice.Zip.{length-zip, get_or-zip}
 use Rattle.ring.specs.Elements.{adjoint, difference}
-use Rattle.ring.proofs.Places.{adjoint_other, length_adjoint, length_difference}
-use Rattle.ring.proofs.Sizes.{abs_neg, fits_narrow}
+use Rattle.ring.specs.Kinds.{word_value}
+use Rattle.ring.proofs.Places.{length_adjoint, length_difference}
+use Rattle.ring.proofs.Sizes.{bounded_adjoint, fits_word}
+use Rattle.ring.proofs.Words.{same_word}
 use Rattle.scheme.specs.Keys.{all_within, form_limit}
 use Rattle.key.specs.FormLoading.{first_unlike}
-use Rattle.key.specs.Loading.{is_zero}
+use Rattle.scheme.specs.Pairs.{is_zero}
 use Rattle.key.proofs.Differences.{alike, unlike, same_from, never_differs}
 use Rattle.key.proofs.Ranges.{bounded_from}
 
--- −q_(n−i), in 32 bits
-module _ (q : List ℤ) (i : ℕ) (small : all_within form_limit q ≡ true) (h : 0 < i) (k : i < length q) where
-  entry_small : nat_abs (get_or q (length q - i) (pos 0)) ≤ form_limit
-  entry_small = All-get_or (λ z. nat_abs z ≤ form_limit) q (length q - i) (pos 0) (omega arith) (bounded_from form_limit q small)
+-- an element beside its adjoint, both in words: they differ where the true ones do
+module _ (q e m : List ℤ) (small : all_within form_limit q ≡ true) (e_is : e ≡ q) (m_is : map word_value m ≡ map word_value (adjoint q)) where
+  m_long : length m ≡ length q
+  m_long = sym (length-map m word_value) ∙ ap length m_is ∙ length-map (adjoint q) word_value ∙ length_adjoint q
 
-  entry_is : to_z w32 (of_z w32 (get_or q (length q - i) (pos 0))) ≡ get_or q (length q - i) (pos 0)
-  entry_is = to_z-of_z w32 _ (fits_narrow (get_or q (length q - i) (pos 0)) (omega (arith, entry_small)))
+  pub pairs_long : length (zip e m) ≡ length q
+  pairs_long = let l = length-zip e m in let n = ap length e_is in omega (arith, l, n, m_long)
 
-  minus_fits : SFits w32 (pos 0 -ℤ get_or q (length q - i) (pos 0))
-  minus_fits = rw (+ℤ_idl (neg_ℤ (get_or q (length q - i) (pos 0)))) (fits_narrow (neg_ℤ (get_or q (length q - i) (pos 0))) (omega (arith, entry_small, abs_neg (get_or q (length q - i) (pos 0)))))
+  pair_at : (k : ℕ) → k < length q → get_or (zip e m) k (pos 0, pos 0) ≡ (get_or q k (pos 0), get_or m k (pos 0))
+  pair_at k h = get_or-zip e m k (pos 0, pos 0) (let n = ap length e_is in omega (arith, n)) (omega (arith, m_long)) ∙ ap (λ l. (get_or l k (pos 0), get_or m k (pos 0))) e_is
 
-  pub mirror_fits : SFits w32 (pos 0 -ℤ to_z w32 (of_z w32 (get_or q (length q - i) (pos 0))))
-  mirror_fits = rw entry_is minus_fits
+  residue_at : (k : ℕ) → k < length q → word_value (get_or m k (pos 0)) ≡ word_value (get_or (adjoint q) k (pos 0))
+  residue_at k h =
+      let long = length_adjoint q in
+      sym (get_or-map word_value m k (pos 0) 0 (omega (arith, m_long))) ∙ ap (λ l. get_or l k 0) m_is ∙ get_or-map word_value (adjoint q) k (pos 0) 0 (omega arith)
 
-  pub mirror_is : to_z w32 (of_z w32 (pos 0 -ℤ to_z w32 (of_z w32 (get_or q (length q - i) (pos 0))))) ≡ get_or (adjoint q) i (pos 0)
-  mirror_is =
-      to_z-of_z w32 _ mirror_fits
-      ∙ ap (λ z. pos 0 -ℤ z) entry_is
-      ∙ +ℤ_idl (neg_ℤ (get_or q (length q - i) (pos 0)))
-      ∙ sym (adjoint_other q i h k)
+  entry_fits : (k : ℕ) → k < length q → FitsSigned w64 (get_or q k (pos 0))
+  entry_fits k h = fits_word _ (omega (arith, All-get_or (λ z. nat_abs z ≤ form_limit) q k (pos 0) h (bounded_from form_limit q small)))
 
--- what a loop knows at place i: so far q and its adjoint are alike
-abbrev pub Alike : List ℤ → ℕ → Type 0
-Alike q i = i + prefix_len is_zero (drop i (difference q (adjoint q))) ≡ first_unlike q
+  mirror_fits : (k : ℕ) → k < length q → FitsSigned w64 (get_or (adjoint q) k (pos 0))
+  mirror_fits k h =
+      let long = length_adjoint q in
+      fits_word _ (omega (arith, All-get_or (λ z. nat_abs z ≤ form_limit) (adjoint q) k (pos 0) (omega arith) (bounded_adjoint form_limit q (bounded_from form_limit q small))))
 
-module _ (q : List ℤ) (i : ℕ) where
-  long : length (difference q (adjoint q)) ≡ length q
-  long = length_difference q (adjoint q) (sym (length_adjoint q))
+  same_at : (k : ℕ) → k < length q → (get_or (zip e m) k (pos 0, pos 0)).0 ≡ (get_or (zip e m) k (pos 0, pos 0)).1 → is_zero (get_or (difference q (adjoint q)) k (pos 0)) ≡ true
+  same_at k h same =
+      let at : get_or q k (pos 0) ≡ get_or m k (pos 0) = rw (pair_at k h) at same in
+      alike q (adjoint q) (sym (length_adjoint q)) k h (same_word _ _ (entry_fits k h) (mirror_fits k h) (ap word_value at ∙ residue_at k h))
 
-  pub alike_first : Alike q 0
+  other_at : (k : ℕ) → k < length q → FitsSigned w64 (get_or (zip e m) k (pos 0, pos 0)).1 × ((get_or (zip e m) k (pos 0, pos 0)).0 ≡ (get_or (zip e m) k (pos 0, pos 0)).1 → ⊥)
+      → is_zero (get_or (difference q (adjoint q)) k (pos 0)) ≡ false
+  other_at k h other =
+      let at : FitsSigned w64 (get_or m k (pos 0)) × (get_or q k (pos 0) ≡ get_or m k (pos 0) → ⊥) = rw (pair_at k h) at other in
+      unlike q (adjoint q) (sym (length_adjoint q)) k h (λ same. at.1 (sym (same_word _ _ at.0 (entry_fits k h) (residue_at k h ∙ ap word_value (sym same)))))
+
+  pub unlike_found : (r : Option ℕ)
+      → MatchOption r (AllWithin {X = ℤ × ℤ} (λ p. p.0 ≡ p.1) (zip e m) 0 (length (zip e m)))
+      (λ i. (i < length (zip e m)) × HoldsAt {X = ℤ × ℤ} (λ p. FitsSigned w64 p.1 × (p.0 ≡ p.1 → ⊥)) (zip e m) i × AllWithin {X = ℤ × ℤ} (λ p. p.0 ≡ p.1) (zip e m) 0 i)
+      → MatchOption r (first_unlike q ≡ length q) (λ k. (k ≡ first_unlike q) × (k < length q))
   unfolding first_unlike
-  alike_first = omega arith
-
-  pub alike_more : i < length q → get_or q i (pos 0) ≡ get_or (adjoint q) i (pos 0) → Alike q i → Alike q (i + 1)
-  alike_more h e inv =
-      let more = prefix_len-drop_yes is_zero (difference q (adjoint q)) i (pos 0) (omega (arith, long)) (alike q (adjoint q) (sym (length_adjoint q)) i h e) in
-      omega (arith, inv, more)
-
-  pub alike_not : i < length q → (get_or q i (pos 0) ≡ get_or (adjoint q) i (pos 0) → ⊥) → Alike q i → i ≡ first_unlike q
-  alike_not h e inv =
-      let stop = prefix_len-drop_no is_zero (difference q (adjoint q)) i (pos 0) (omega (arith, long)) (unlike q (adjoint q) (sym (length_adjoint q)) i h e) in
-      omega (arith, inv, stop)
-
-  pub alike_all : length q ≤ i → i ≤ length q → Alike q i → first_unlike q ≡ length q
-  alike_all h k inv =
-      let none = at_drop_all (prefix_len is_zero) (difference q (adjoint q)) i (omega (arith, long)) in
-      omega (arith, inv, none)
+  unlike_found None h =
+      let long = length_difference q (adjoint q) (sym (length_adjoint q)) in
+      prefix_len_is is_zero (difference q (adjoint q)) (length q) (pos 0) (omega arith) (λ k l. same_at k l (h k (pos 0, pos 0) (omega arith) (omega (arith, pairs_long)))) (λ l. absurd (omega arith))
+  unlike_found (Some i) h =
+      let long = length_difference q (adjoint q) (sym (length_adjoint q)) in
+      let below : i < length q = omega (arith, h.0, pairs_long) in
+      (sym (prefix_len_is is_zero (difference q (adjoint q)) i (pos 0) (omega arith) (λ k l. same_at k (omega arith) (h.2 k (pos 0, pos 0) (omega arith) l)) (λ _. other_at i below (h.1 (pos 0, pos 0)))), below)
 
 -- an element that differs nowhere from its adjoint
 pub selfadjoint_from : (q : List ℤ) → first_unlike q ≡ length q → q ≡ adjoint q

@@ -1,16 +1,18 @@
 -- Coefficients of f·G − g·F, in words.
-use Rattle.std.proofs.Common.{◌≡◌, ℕ, zero, suc, ◌^◌, ◌<◌, ◌≤◌, true, false, cond, eqb, List, length, get_or, ℤ, pos, ◌-ℤ◌, neg_ℤ, nat_abs, sym, ap, ◌∙◌, arith, w64, SFits, to_z, of_z}
+use Rattle.std.proofs.Common.{◌≡◌, ℕ, zero, suc, ◌^◌, ◌<◌, ◌≤◌, Bool, true, false, cond, not, eqb, List, length, get_or, ℤ, pos, ◌-ℤ◌, neg_ℤ, nat_abs, sym, refl, ap, ◌∙◌, arith, w64, SFits, to_z, of_z}
 use mir.Syntax.{Width}
+use mir.Val.{bool_byte}
 use Rattle.std.specs.List.{prefix_len}
 use Rattle.std.proofs.lemmas.Int.{to_z-of_z}
-use Rattle.std.proofs.lemmas.Bool.{ne_eqb}
-use Rattle.ring.specs.Elements.{coefficient, product, constant}
+use Rattle.std.proofs.lemmas.Bool.{ne_eqb, eq-eqb, eqb-true, false≢true}
+use Rattle.ring.specs.Elements.{coefficient, product, difference, constant}
 use Rattle.ring.specs.Kinds.{rest, values, word_value}
 use Rattle.ring.proofs.Exact.{exact_coefficient}
 use Rattle.ring.proofs.Places.{product_at, length_product, difference_at, length_difference, length_constant, constant_first, constant_other}
 use Rattle.ring.proofs.Sizes.{abs_sum, abs_neg, coefficient_size, fits_word}
 use Rattle.scheme.specs.Keys.{basis, determinant, key_limit}
-use Rattle.key.specs.Loading.{excess, is_zero}
+use Rattle.scheme.specs.Pairs.{is_zero}
+use Rattle.key.specs.Loading.{excess}
 use Rattle.key.specs.Words.{SmallWords, FourWords}
 use Rattle.key.proofs.Differences.{alike, unlike, same_from}
 use Rattle.key.proofs.Ranges.{bounded_from}
@@ -49,6 +51,13 @@ module _ (f g F G : List ℤ) (k : ℕ) (r s : ℤ) (words : FourWords f g F G) 
       ∙ rw (r_exact, s_exact)
       (sym (difference_at (product f G) (product g F) k (omega arith) (omega arith) ∙ rw (product_at f G k h, product_at g F k (omega arith))))
 
+one_byte : (b : Bool) → pos (bool_byte b) ≡ cond b (pos 1) (pos 0)
+one_byte true = refl
+one_byte false = refl
+
+same_bits : (w : Width) (x y : ℤ) → SFits w x → SFits w y → of_z w x ≡ of_z w y → x ≡ y
+same_bits w x y h k e = sym (to_z-of_z w x h) ∙ ap (to_z w) e ∙ to_z-of_z w y k
+
 -- the coefficients of f·G − g·F − 1
 module _ (f g F G : List ℤ) (words : FourWords f g F G) where
   pub length_determinant : length (determinant (basis f g F G)) ≡ length f
@@ -72,18 +81,20 @@ module _ (f g F G : List ℤ) (words : FourWords f g F G) where
   one_long : length (determinant (basis f g F G)) ≡ length (constant (length f) (pos 1))
   one_long = length_determinant ∙ sym (length_constant (length f) (pos 1))
 
-  pub excess_none : (k : ℕ) (d : ℤ) → k < length f → d ≡ get_or (determinant (basis f g F G)) k (pos 0) → d ≡ cond (eqb k 0) (pos 1) (pos 0) → is_zero (get_or (excess (length f) (basis f g F G)) k (pos 0)) ≡ true
+  -- coefficient k, and that of 1, as a test has them
+  pub wrong_is : (k : ℕ) (d one : ℤ) → k < length f → SFits w64 d → SFits w64 one → d ≡ get_or (determinant (basis f g F G)) k (pos 0) → one ≡ pos (bool_byte (eqb k 0))
+      → not (eqb (of_z w64 d) (of_z w64 one)) ≡ not (is_zero (get_or (excess (length f) (basis f g F G)) k (pos 0)))
   unfolding excess
-  excess_none k d h e z = alike (determinant (basis f g F G)) (constant (length f) (pos 1)) one_long k (omega (arith, length_determinant)) (sym e ∙ z ∙ sym (constant_at k h))
+  wrong_is k d one h d-fits one-fits d-is one-is = ap not (go (eqb (of_z w64 d) (of_z w64 one)) refl)
+    where
+      at : one ≡ get_or (constant (length f) (pos 1)) k (pos 0)
+      at = one-is ∙ one_byte (eqb k 0) ∙ sym (constant_at k h)
 
-  pub excess_some : (k : ℕ) (d : ℤ) → k < length f → d ≡ get_or (determinant (basis f g F G)) k (pos 0) → (d ≡ cond (eqb k 0) (pos 1) (pos 0) → ⊥) → is_zero (get_or (excess (length f) (basis f g F G)) k (pos 0)) ≡ false
-  unfolding excess
-  excess_some k d h e z = unlike (determinant (basis f g F G)) (constant (length f) (pos 1)) one_long k (omega (arith, length_determinant)) (λ same. z (e ∙ same ∙ constant_at k h))
+      go : (b : Bool) → eqb (of_z w64 d) (of_z w64 one) ≡ b → b ≡ is_zero (get_or (difference (determinant (basis f g F G)) (constant (length f) (pos 1))) k (pos 0))
+      go true e = sym (alike (determinant (basis f g F G)) (constant (length f) (pos 1)) one_long k (omega (arith, length_determinant)) (sym d-is ∙ same_bits w64 d one d-fits one-fits (eqb-true _ _ e) ∙ at))
+      go false e = sym (unlike (determinant (basis f g F G)) (constant (length f) (pos 1)) one_long k (omega (arith, length_determinant)) (λ same. false≢true (sym e ∙ eq-eqb _ _ (ap (of_z w64) (d-is ∙ same ∙ sym at)))))
 
   -- where no coefficient is wrong, the determinant is one
   pub unit_from : prefix_len is_zero (excess (length f) (basis f g F G)) ≡ length f → determinant (basis f g F G) ≡ constant (length f) (pos 1)
   unfolding excess
   unit_from e = same_from (determinant (basis f g F G)) (constant (length f) (pos 1)) one_long (e ∙ sym length_determinant)
-
-pub same_bits : (w : Width) (x y : ℤ) → SFits w x → SFits w y → of_z w x ≡ of_z w y → x ≡ y
-same_bits w x y h k e = sym (to_z-of_z w x h) ∙ ap (to_z w) e ∙ to_z-of_z w y k

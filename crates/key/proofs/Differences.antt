@@ -7,7 +7,7 @@ use Rattle.std.proofs.lemmas.List.{ext_get_or}
 use Rattle.std.proofs.lemmas.Bool.{ne_eqb, eqb-true}
 use Rattle.ring.specs.Elements.{sum, negative, difference}
 use Rattle.ring.proofs.Places.{difference_at, length_difference}
-use Rattle.key.specs.Loading.{is_zero}
+use Rattle.scheme.specs.Pairs.{is_zero}
 
 apart : (x y : ℤ) → nat_abs (x -ℤ y) ≡ 0 → x ≡ y
 apart x y e = same_in x y (omega (arith, abs_is (x -ℤ y), sum_is_lem x (neg_ℤ y), neg_is y))

@@ -13,7 +13,7 @@ use Rattle.key.specs.Held.{basis_of}
 use Rattle.key.specs.Making.{starred, Known}
 use Rattle.key.specs.Stored.{front, padded}
 use Rattle.key.specs.declared.key.Key.{Key}
-use Rattle.key.proofs.Body.{front_padded}
+use Rattle.key.proofs.Taking.{front_padded}
 use Rattle.key.proofs.Ranges.{all_from}
 use Rattle.key.proofs.Sections.{size_room}
 

@@ -1,11 +1,15 @@
 pub mod Resting
 pub mod Ranges
-pub mod Bytes
 pub mod Differences
 pub mod Totals
 pub mod Determinants
 pub mod Sound
+pub mod Fours
+pub mod Firsts
+pub mod Tables
 pub mod Sections
+pub mod Taking
+pub mod KeyTests
 pub mod Body
 pub mod Rows
 pub mod Forms

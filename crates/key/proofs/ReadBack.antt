@@ -7,6 +7,7 @@ use Rattle.ring.specs.Elements.{total, difference, constant, adjoint}
 use Rattle.ring.specs.Faults.{first_failing}
 use Rattle.ring.specs.declared.class.Class.{Class}
 use Rattle.ring.proofs.Places.{length_constant}
+use Rattle.scheme.specs.Pairs.{is_zero}
 use Rattle.scheme.specs.Keys.{Basis, Gram, all_within, odd, determinant, key_limit, form_limit}
 use Rattle.slip.proofs.Bytes.{length_bytes8, length_bytes32}
 use Rattle.slip.specs.Kinds.{part_of}
@@ -15,7 +16,7 @@ use Rattle.slip.specs.Slips.{slip_tests, size_named}
 use Rattle.slip.specs.Trailers.{Passes}
 use Rattle.slip.specs.declared.kind.Kind.TheVariants.{Key, Form}
 use Rattle.key.specs.FormLoading.{form_numbers_in, gram_in, form_body_tests, form_tests, first_unlike}
-use Rattle.key.specs.Loading.{numbers_in, basis_in, excess, is_zero, body_tests, key_tests}
+use Rattle.key.specs.Loading.{numbers_in, basis_in, excess, body_tests, key_tests}
 use Rattle.key.specs.Refusals.{key_fault, form_fault}
 use Rattle.key.specs.Writing.{key_slip, form_slip}
 use Rattle.key.specs.declared.fault.FormFault.TheVariants.{Scratch as FormScratch}
@@ -27,21 +28,20 @@ use Rattle.key.proofs.Sound.{all_sound}
 use Rattle.key.proofs.Written.{parts_pass, part_read}
 
 -- an element of the class, whose bytes read as the element
-pub record Reads8 (class : Class) (xs : List ℤ) : Type 0 where
+pub record Reads (limit : ℕ) (bytes : List ℤ → List ℕ) (numbers : List ℕ → List ℤ) (class : Class) (xs : List ℤ) : Type 0 where
   pub size : length xs ≡ size_of class
-  pub small : all_within key_limit xs ≡ true
-  pub back : numbers8 (bytes8 xs) ≡ xs
+  pub small : all_within limit xs ≡ true
+  pub back : numbers (bytes xs) ≡ xs
 
-pub reads8 : (class : Class) (xs ys : List ℤ) → xs ≡ ys → length xs ≡ size_of class → all_within key_limit ys ≡ true → numbers8 (bytes8 xs) ≡ xs → Reads8 class ys
-reads8 class xs ys e size small back = record { size = ap length (sym e) ∙ size; small = small; back = rw e at back }
+pub reads : {limit : ℕ} {bytes : List ℤ → List ℕ} {numbers : List ℕ → List ℤ} (class : Class) (xs ys : List ℤ) → xs ≡ ys → length xs ≡ size_of class → all_within limit ys ≡ true → numbers (bytes xs) ≡ xs
+    → Reads limit bytes numbers class ys
+reads class xs ys e size small back = record { size = ap length (sym e) ∙ size; small = small; back = rw e at back }
 
-pub record Reads32 (class : Class) (xs : List ℤ) : Type 0 where
-  pub size : length xs ≡ size_of class
-  pub small : all_within form_limit xs ≡ true
-  pub back : numbers32 (bytes32 xs) ≡ xs
+abbrev pub Reads8 : Class → List ℤ → Type 0
+Reads8 = Reads key_limit bytes8 numbers8
 
-pub reads32 : (class : Class) (xs ys : List ℤ) → xs ≡ ys → length xs ≡ size_of class → all_within form_limit ys ≡ true → numbers32 (bytes32 xs) ≡ xs → Reads32 class ys
-reads32 class xs ys e size small back = record { size = ap length (sym e) ∙ size; small = small; back = rw e at back }
+abbrev pub Reads32 : Class → List ℤ → Type 0
+Reads32 = Reads form_limit bytes32 numbers32
 
 module _ (class : Class) (b : Basis) (file : List ℕ) (is : file ≡ key_slip class b)
     (f : Reads8 class b.f) (g : Reads8 class b.g) (F : Reads8 class b.F) (G : Reads8 class b.G) where

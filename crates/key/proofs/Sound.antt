@@ -5,8 +5,9 @@ use Rattle.std.proofs.lemmas.Bool.{eq-eqb, ne_eqb, eqb-true}
 use Rattle.ring.specs.Elements.{total}
 use Rattle.ring.specs.Faults.{test, first_failing}
 use Rattle.ring.proofs.Firsts.{none_parts}
+use Rattle.scheme.specs.Pairs.{is_zero}
 use Rattle.scheme.specs.Keys.{Basis, odd}
-use Rattle.key.specs.Loading.{excess, is_zero, determinant_test, sound_tests}
+use Rattle.key.specs.Loading.{excess, determinant_test, sound_tests}
 use Rattle.key.specs.Refusals.{key_fault}
 use Rattle.key.specs.declared.fault.KeyFault.TheVariants.{EvenF, EvenG, Determinant}
 

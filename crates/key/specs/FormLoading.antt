@@ -1,8 +1,9 @@
 -- Loading a form slip: the form that a file holds, and the tests in their order. Assumes nothing.
-use Rattle.std.specs.Prelude.{◌≡◌, ℕ, ◌+◌, ◌*◌, true, List, [], ◌∷◌, ◌++◌, length, ℤ, Some, ◌==◌}
+use Rattle.std.specs.Prelude.{◌≡◌, ℕ, ◌+◌, ◌*◌, List, [], ◌∷◌, ◌++◌, length, ℤ, Some, ◌==◌}
 use Rattle.std.specs.List.{prefix_len}
 use Rattle.ring.specs.Elements.{difference, adjoint}
 use Rattle.ring.specs.Faults.{Test, test}
+use Rattle.scheme.specs.Pairs.{is_zero}
 use Rattle.scheme.specs.Keys.{Gram, gram, within, all_within, form_limit}
 use Rattle.slip.specs.Slips.{slip_tests, class_named, size_named, section_bytes, section_place}
 use Rattle.slip.specs.Numbers.{numbers32}
@@ -10,7 +11,6 @@ use Rattle.slip.specs.Refusals.{slip_fault}
 use Rattle.slip.specs.declared.fault.SlipFault.TheVariants.{Range}
 use Rattle.slip.specs.declared.kind.Kind.TheVariants.{Form}
 use Rattle.key.specs.Gramheld.{gram_of}
-use Rattle.key.specs.Loading.{is_zero}
 use Rattle.key.specs.Refusals.{form_fault}
 use Rattle.key.specs.Stored.{padded}
 use Rattle.key.specs.declared.fault.FormFault.TheVariants.{Scratch, Adjoint}
@@ -50,11 +50,6 @@ form_body_tests file = form_range_test file 0 ∷ form_range_test file 1 ∷ for
 -- what is asked of a form slip and of a scratch of so many words
 unfoldable pub form_tests : List ℕ → ℕ → List Test
 form_tests file words = slip_tests Form file ++ (form_scratch_test (size_named file) words ∷ form_body_tests file)
-
--- section i was taken into memory, all its numbers within their range
-pub record FormTaken (file : List ℕ) (i : ℕ) (memory : List ℤ) : Type 0 where
-  pub memory_is : memory ≡ padded (form_numbers_in file i)
-  pub in_range : all_within form_limit (form_numbers_in file i) ≡ true
 
 -- a form place with the class and the three elements of a slip
 pub record FormLoaded (file : List ℕ) (form : FormPlace) : Type 0 where

@@ -1,7 +1,9 @@
 pub mod Stored
 pub mod Words
+pub mod Fours
 pub mod Refusals
 pub mod Resting
+pub mod Taking
 pub mod Held
 pub mod Gramheld
 pub mod Loading

@@ -1,9 +1,10 @@
 -- Loading a key slip: the basis that a file holds, and the tests in their order. Assumes nothing.
-use Rattle.std.specs.Prelude.{◌≡◌, ℕ, ◌+◌, ◌*◌, Bool, true, List, [], ◌∷◌, ◌++◌, ℤ, pos, Some, ◌==◌, unsigned_abs}
+use Rattle.std.specs.Prelude.{◌≡◌, ℕ, ◌+◌, ◌*◌, List, [], ◌∷◌, ◌++◌, ℤ, pos, Some, ◌==◌}
 use Rattle.std.specs.List.{prefix_len}
 use Rattle.ring.specs.Elements.{difference, constant, total}
 use Rattle.ring.specs.declared.class.Class.{Class}
 use Rattle.ring.specs.Faults.{Test, test}
+use Rattle.scheme.specs.Pairs.{is_zero}
 use Rattle.scheme.specs.Keys.{Basis, basis, within, all_within, odd, determinant, key_limit}
 use Rattle.slip.specs.Slips.{slip_tests, class_named, size_named, section_bytes, section_place}
 use Rattle.slip.specs.Numbers.{numbers8}
@@ -26,9 +27,6 @@ basis_in file = basis (numbers_in file 0) (numbers_in file 1) (numbers_in file 2
 -- f·G − g·F − 1
 unfoldable pub excess : ℕ → Basis → List ℤ
 excess n b = difference (determinant b) (constant n (pos 1))
-
-abbrev pub is_zero : ℤ → Bool
-is_zero z = unsigned_abs z == 0
 
 -- every number of section i is within ±127; the place is that of the first other byte
 abbrev pub range_test : List ℕ → ℕ → Test
@@ -57,12 +55,6 @@ body_tests file = range_test file 0 ∷ range_test file 1 ∷ range_test file 2 
 -- what is asked of a key slip and of a scratch of so many words
 unfoldable pub key_tests : List ℕ → ℕ → List Test
 key_tests file words = slip_tests Key file ++ (scratch_test (size_named file) words ∷ body_tests file)
-
--- section i was taken: its bytes, and its numbers as words, all within their range
-pub record Taken (file : List ℕ) (i : ℕ) (bytes : List ℕ) (words : List ℤ) : Type 0 where
-  pub bytes_are : bytes ≡ section_bytes Key (size_named file) file i
-  pub words_are : words ≡ numbers_in file i
-  pub in_range : all_within key_limit (numbers_in file i) ≡ true
 
 -- a key place of this class with these four elements
 pub record Holds (key : KeyPlace) (class : Class) (f g F G : List ℤ) : Type 0 where

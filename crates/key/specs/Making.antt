@@ -1,6 +1,5 @@
 -- Making the form of a key. Assumes nothing.
-use Rattle.std.specs.Prelude.{◌≡◌, true, List, length, ℤ}
-use Rattle.ring.specs.Calls.{of_class}
+use Rattle.std.specs.Prelude.{◌≡◌, List, ℤ}
 use Rattle.ring.specs.Classes.{size_of}
 use Rattle.ring.specs.Elements.{adjoint, product, sum}
 use Rattle.scheme.specs.Keys.{Basis, IsKey, IsForm, form_of}
@@ -9,24 +8,12 @@ use Rattle.algebra.specs.Isometries.{Joined}
 use Rattle.key.specs.Gramheld.{gram_of}
 use Rattle.key.specs.Held.{basis_of}
 use Rattle.key.specs.Stored.{padded}
-use Rattle.key.specs.Words.{SmallWords}
 use Rattle.key.specs.declared.form.Form.{Form}
 use Rattle.key.specs.declared.key.Key.{Key}
 
 -- a*·b + c*·d
 unfoldable pub starred : List ℤ → List ℤ → List ℤ → List ℤ → List ℤ
 starred a b c d = sum (product (adjoint a) b) (product (adjoint c) d)
-
--- four elements of one class's size
-pub record FourElements (a b c d : List ℤ) : Type 0 where
-  pub a_small : SmallWords a
-  pub b_small : SmallWords b
-  pub c_small : SmallWords c
-  pub d_small : SmallWords d
-  pub a_class : of_class (length a) ≡ true
-  pub b_long : length b ≡ length a
-  pub c_long : length c ≡ length a
-  pub d_long : length d ≡ length a
 
 -- a form place with the class and the form of a key
 pub record Made (key : Key) (form : Form) : Type 0 where

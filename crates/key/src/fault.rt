@@ -5,7 +5,7 @@ ghost use Rattle.key.specs.Refusals.{key_fault, of_slip, form_fault, of_form_sli
 use ring::{Fault, Layer};
 use slip::SlipFault;
 
-#[derive(Clone, Copy)]
+#[derive(Clone, Copy, PartialEq, Eq, Debug)]
 pub enum KeyFault {
     // The slip's own fault, as it came.
     Slip(SlipFault),
@@ -44,7 +44,8 @@ impl From<KeyFault> for Fault {
     }
 }
 
-#[derive(Clone, Copy)]
+// Two layers refuse, each with faults of its own: one enum would let a form refuse an even sum.
+#[derive(Clone, Copy, PartialEq, Eq, Debug)]
 pub enum FormFault {
     // The slip's own fault, as it came.
     Slip(SlipFault),

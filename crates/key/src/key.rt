@@ -10,6 +10,7 @@ use ring::Class;
 mod elements;
 mod load;
 mod resting;
+mod words;
 mod write;
 
 // f, g, F and G; the basis has the rows (f, F) and (g, G).

@@ -5,7 +5,10 @@ mod fault;
 mod form;
 mod key;
 mod memory;
+mod product;
 mod scratch;
+mod section;
+mod star;
 
 pub use fault::{FormFault, KeyFault};
 pub use form::Form;

@@ -3,20 +3,13 @@ ghost use Rattle.std.specs.Prelude.{◌≡◌, length, replicate, slice_set};
 ghost use Rattle.ring.specs.Classes.{size_of};
 ghost use Rattle.key.specs.Stored.{front, room_of};
 
-use ring::Class;
-
-// Memory that holds one number everywhere.
-pub(crate) fn blank<T: Copy>(zero: T) -> [T; 1024]
-    ensures { result ≡ replicate room_of zero }
-{
-    [zero; 1024]
-}
+use ring::{Class, filled};
 
 // A constant, as an element.
 pub(crate) fn constant<T: Copy>(zero: T, c: T) -> [T; 1024]
     ensures { result ≡ slice_set (replicate room_of zero) 0 c }
 {
-    let mut numbers = blank(zero);
+    let mut numbers = filled(zero);
     numbers[0] = c;
     numbers
 }

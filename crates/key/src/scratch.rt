@@ -1,15 +1,21 @@
-// The guard of lent scratch words: whatever way a call ends, the words are zero afterwards.
-ghost use Rattle.std.specs.Prelude.{◌≡◌, length, replicate, pos};
+// The guard of lent scratch: whatever way a call ends, the numbers are zero afterwards.
+ghost use Rattle.std.specs.Prelude.{◌≡◌, length, replicate};
 
-pub struct Guard<'a> {
-    pub words: &'a mut [i64],
+use ring::Coefficient;
+
+// That they are zero is said by each call again: no type speaks of lent numbers after the call.
+pub struct Guard<'a, K: Coefficient> {
+    pub words: &'a mut [K],
 }
 
-impl Drop for Guard<'_> {
+impl<K: Coefficient> Drop for Guard<'_, K> {
     fn drop(self)
-        ensures { self.exit.0.now ≡ replicate (length self.entry.words.now) (pos 0) }
+        ensures { self.exit.0.now ≡ replicate (length self.entry.words.now) K.ZERO }
     {
-        self.words.fill(0);
+        // `fill` asks for a clone that cannot fail, and a kind does not say so of its numbers.
+        for word in self.words.iter_mut() {
+            *word = K::ZERO;
+        }
         let Guard { words: _ } = self;
     }
 }

@@ -1,3 +1,5 @@
+ghost use Rattle.std.specs.Prelude.{◌<◌, ◌≤◌};
+
 use crate::*;
 use ring::{Fault, Layer};
 
@@ -6,21 +8,24 @@ const RESTING: [u8; 24] = [
     1, 0, 0, 0, 1, 0, 0, 0, 0, 0, 0, 0, 1, 0, 0, 0, 0x4B, 1, 0, 4, 0, 0, 0, 24,
 ];
 
-// The refusal of the resting key's slip with one byte changed and a scratch of so many words.
-fn refusal(place: usize, byte: u8, words: usize) -> Option<Fault> {
+// That slip with one byte changed.
+fn changed(place: usize, byte: u8) -> [u8; 24]
+    requires { place < 24 }
+{
     let mut file = RESTING;
+    file[place] = byte;
+    file
+}
+
+// How a load of the file is refused, with a scratch of so many words.
+fn refusal(file: &[u8], words: usize) -> Option<Fault>
+    requires { words ≤ 17 }
+{
     let mut scratch = [7i64; 17];
-    if place < 24 {
-        file[place] = byte;
-    }
-    if words > 17 {
-        return None;
-    }
     let mut key = Key::resting();
-    match key.load(&file, &mut scratch[0..words]) {
-        Ok(()) => None,
-        Err(fault) => Some(fault.into()),
-    }
+    key.load(file, &mut scratch[0..words])
+        .err()
+        .map(Fault::from)
 }
 
 fn fault(number: u8, layer: Layer, place: usize) -> Option<Fault> {
@@ -33,14 +38,14 @@ fn fault(number: u8, layer: Layer, place: usize) -> Option<Fault> {
 
 #[test]
 fn refusals(rt: HostRuntime) {
-    assert_eq!(rt; refusal(24, 0, 16), None);
-    assert_eq!(rt; refusal(24, 0, 17), fault(1, Layer::Key, 0));
-    assert_eq!(rt; refusal(17, 5, 16), fault(2, Layer::Slip, 17));
-    assert_eq!(rt; refusal(11, 0x80, 16), fault(3, Layer::Slip, 11));
-    assert_eq!(rt; refusal(1, 1, 16), fault(4, Layer::Key, 0));
-    assert_eq!(rt; refusal(6, 0xFF, 16), fault(4, Layer::Key, 1));
-    assert_eq!(rt; refusal(8, 1, 16), fault(5, Layer::Key, 0));
-    assert_eq!(rt; refusal(10, 1, 16), fault(5, Layer::Key, 2));
+    assert_eq!(rt; refusal(&RESTING, 16), None);
+    assert_eq!(rt; refusal(&RESTING, 17), fault(1, Layer::Key, 0));
+    assert_eq!(rt; refusal(&changed(17, 5), 16), fault(2, Layer::Slip, 17));
+    assert_eq!(rt; refusal(&changed(11, 0x80), 16), fault(3, Layer::Slip, 11));
+    assert_eq!(rt; refusal(&changed(1, 1), 16), fault(4, Layer::Key, 0));
+    assert_eq!(rt; refusal(&changed(6, 0xFF), 16), fault(4, Layer::Key, 1));
+    assert_eq!(rt; refusal(&changed(8, 1), 16), fault(5, Layer::Key, 0));
+    assert_eq!(rt; refusal(&changed(10, 1), 16), fault(5, Layer::Key, 2));
 }
 
 // f = X, g = −X³, F = 0, G = −X³ has the resting key's form.

@@ -1,6 +1,6 @@
 -- A session takes no order with another number: its state stays.
 use Rattle.std.proofs.Common.{◌≡◌, ℕ, ◌+◌, Bool, true, false, cond, not, ◌&&◌, eqb, List, length, ℤ, is_some, Some, None, Option, sym, refl, ap, ◌∙◌}
-use Rattle.std.proofs.lemmas.Bool.{true≢false}
+use Rattle.std.proofs.lemmas.Bool.{not-true}
 use Rattle.ring.specs.declared.class.Class.{Class}
 use Rattle.ring.specs.declared.fault.Fault.{Fault}
 use Rattle.scheme.specs.Keys.{Basis}
@@ -42,11 +42,7 @@ pub count_is : (class : Class) (b : Basis) (state : State) (issued capacity : �
 unfolding step work
 count_is class b state issued capacity standing e = record { issued_is = cc; standing_is = cc }
 
-not_false : (p : Bool) → not p ≡ true → p ≡ false
-not_false true h = absurd (true≢false (sym h))
-not_false false h = refl
-
-pub differs_is : (state : State) (hand : Option Order) (order : Order) (n issued : ℕ) (standing : Bool) → hand ≡ Some order → n ≡ order.number → Counted state issued standing
-    → not (standing && eqb n (issued + 1)) ≡ true → matched hand state ≡ false
-differs_is state hand order n issued standing is n_is counts h =
-    ap (λ o. matched o state) is ∙ sym (rw (counts.standing_is, n_is, counts.issued_is)) ∙ not_false (standing && eqb n (issued + 1)) h
+pub differs_is : (state : State) (hand : Option Order) (order : Order) (issued : ℕ) (standing : Bool) → hand ≡ Some order → Counted state issued standing
+    → not (standing && eqb order.number (issued + 1)) ≡ true → matched hand state ≡ false
+differs_is state hand order issued standing is counts h =
+    ap (λ o. matched o state) is ∙ sym (rw (counts.standing_is, counts.issued_is)) ∙ not-true (standing && eqb order.number (issued + 1)) h

@@ -1,43 +1,18 @@
 // Runs cases from standard input and writes those that come out otherwise than expected.
 #![tactic(auto)]
 
-mod case;
-mod elements;
-mod files;
 mod foreign;
-mod keys;
-mod outcome;
 mod sessions;
-mod stop;
-mod text;
 
-use case::Case;
+use cases::{Case, Stop, outcome};
 use std::alloc::Global;
 use std::io;
 use std::io::{BufRead, BufReader};
-use stop::Stop;
 
-fn played(heap: Global, case: &Case) -> Result<Vec<u8>, Stop> {
-    match case.verb {
-        "product" | "sum" | "adjoint" | "turned" | "turned-at" => elements::run(heap, case),
-        "read" => files::read(heap, case),
-        "read-sig" => files::read_sig(heap, case),
-        "write-sig" => files::write_sig(heap, case),
-        "load-key" => keys::load_key(heap, case),
-        "load-form" => keys::load_form(heap, case),
-        "make-form" => keys::make_form(heap, case),
-        "write-key" => keys::write_key(heap, case),
-        "write-form" => keys::write_form(heap, case),
-        "verify" => keys::verify(heap, case),
-        "measure" => keys::measure(heap, case),
-        _ => Err(Stop::Unreadable),
-    }
-}
-
-// Whether a case comes out as expected.
+// Whether a case comes out as expected. Each program reads its lines in its own way.
 fn right(heap: Global, line: &str) -> Result<bool, Stop> {
     let case = Case::read(line)?;
-    let got = played(heap, &case)?;
+    let got = outcome(heap, &case)?;
     Ok(got.as_slice() == case.expect.as_bytes())
 }
 
@@ -53,12 +28,11 @@ fn run_block(rt: HostRuntime, lines: &[String]) -> io::Result<(u64, u64)> {
     };
     let mut good: u64 = 0;
     let mut bad: u64 = 0;
-    for i in 0..calls.len().min(marks.len()) {
-        if marks[i] {
+    for (line, right) in calls.iter().zip(marks.as_slice()) {
+        if *right {
             good = good.saturating_add(1);
         } else {
             bad = bad.saturating_add(1);
-            let line = &calls[i];
             println!(rt; "{first}")?;
             println!(rt; "{line}")?;
         }
@@ -68,6 +42,7 @@ fn run_block(rt: HostRuntime, lines: &[String]) -> io::Result<(u64, u64)> {
 
 fn main(rt: HostRuntime) -> anyhow::Result<()> {
     let heap = rt.alloc();
+    // Two counts: a type for them would be no plainer.
     let mut good: u64 = 0;
     let mut bad: u64 = 0;
     let mut block: Vec<String> = Vec::new(heap);

@@ -5,3 +5,4 @@ pub mod Kinds
 pub mod Calls
 pub mod Wide
 pub mod Below
+pub mod Texts

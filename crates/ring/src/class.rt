@@ -10,6 +10,8 @@ pub enum Class {
     Four,
 }
 
+// Each table, the codes among them, has numbers of its own; one table of all would be no plainer. A class is found by its code and by its
+// size, both numbers, so that `TryFrom` would not say which is meant.
 impl Class {
     // The number in a slip's trailer.
     pub fn code(self) -> u8

@@ -29,6 +29,7 @@ pub enum RingFault {
     Range,
 }
 
+// The numbers of refusals stand where a fault becomes one.
 impl From<RingFault> for Fault {
     ghost from_gives = { λ e r. r ≡ ring_fault e };
 

@@ -1,7 +1,7 @@
 // Kinds of number: what an element's coefficients are made of.
-ghost use Rattle.std.specs.Prelude.{◌≡◌, ℕ, ◌^◌, ◌<◌, ◌≤◌, pos, ◌+ℤ◌, ◌*ℤ◌, neg_ℤ};
+ghost use Rattle.std.specs.Prelude.{◌≡◌, ℕ, ◌^◌, ◌<◌, ◌≤◌, true, false, pos, ◌+ℤ◌, ◌*ℤ◌, neg_ℤ};
 ghost use Rattle.ring.specs.Kinds.{rest, bit_value, word_value};
-ghost use Rattle.ring.specs.Below.{rest_below, word_positive};
+ghost use Rattle.ring.specs.Below.{rest_below, word_nought, word_positive, word_unity};
 ghost use Rattle.std.proofs.Common.{rules};
 
 // A kind of number. A number means its residue modulo the kind's modulus, and each operation gives
@@ -11,17 +11,13 @@ pub trait Coefficient: Copy {
 
     ghost residue: { Self → ℕ };
 
+    ghost ZERO: { Self };
+
     const ZERO: Self;
 
+    ghost ONE: { Self };
+
     const ONE: Self;
-
-    // `ZERO`, with what it means.
-    fn nought() -> Self
-        ensures { residue result ≡ 0 };
-
-    // `ONE`, with what it means.
-    fn unity() -> Self
-        ensures { residue result ≡ 1 };
 
     fn plus(self, other: Self) -> Self
         ensures { residue result ≡ rest modulus (pos (residue self) +ℤ pos (residue other)) };
@@ -34,6 +30,10 @@ pub trait Coefficient: Copy {
 
     ghost several: { 2 ≤ modulus };
 
+    ghost nought: { residue ZERO ≡ 0 };
+
+    ghost unity: { residue ONE ≡ 1 };
+
     ghost below: { (x : Self) → residue x < modulus };
 }
 
@@ -43,21 +43,21 @@ impl Coefficient for i64 {
 
     ghost residue = { word_value };
 
+    ghost ZERO = { pos 0 };
+
     const ZERO: i64 = 0;
+
+    ghost ONE = { pos 1 };
 
     const ONE: i64 = 1;
 
     ghost several = { Prim.search rules };
 
+    ghost nought = { word_nought };
+
+    ghost unity = { word_unity };
+
     ghost below = { λ x. rest_below (2 ^ 64) x word_positive };
-
-    fn nought() -> i64 {
-        Self::ZERO
-    }
-
-    fn unity() -> i64 {
-        Self::ONE
-    }
 
     fn plus(self, other: i64) -> i64 {
         self.wrapping_add(other)
@@ -81,21 +81,21 @@ impl Coefficient for Bit {
 
     ghost residue = { bit_value };
 
+    ghost ZERO = { record { 0 = false } };
+
     const ZERO: Bit = Bit(false);
+
+    ghost ONE = { record { 0 = true } };
 
     const ONE: Bit = Bit(true);
 
     ghost several = { Prim.search rules };
 
+    ghost nought = { Prim.search rules };
+
+    ghost unity = { Prim.search rules };
+
     ghost below = { Prim.search rules };
-
-    fn nought() -> Bit {
-        Self::ZERO
-    }
-
-    fn unity() -> Bit {
-        Self::ONE
-    }
 
     fn plus(self, other: Bit) -> Bit {
         Bit(self.0 ^ other.0)

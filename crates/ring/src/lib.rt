@@ -2,9 +2,11 @@
 #![tactic(auto)]
 
 mod class;
+mod display;
 mod fault;
 mod kind;
 mod linear;
+mod memory;
 mod products;
 mod strip;
 mod wide;
@@ -13,6 +15,7 @@ pub use class::Class;
 pub use fault::{Fault, Layer, RingFault};
 pub use kind::{Bit, Coefficient};
 pub use linear::{adjoint, sum};
+pub use memory::filled;
 pub use products::{coefficient, product};
 pub use strip::Turned;
 pub use wide::{Number, widen};

@@ -1,4 +1,5 @@
-// Sums and adjoints of elements.
+// Sums and adjoints of elements. Each call is written out: of one that was passed in, the clause could not say what it
+// works out.
 ghost use Rattle.std.specs.Prelude.{◌≡◌, ◌<◌, [], ◌∷◌, map, length, pos, OnErr, slice_index_or};
 ghost use Rattle.ring.specs.Calls.{length_test2, length_test3};
 ghost use Rattle.ring.specs.Elements.{sum as sum_of, adjoint as adjoint_of};
@@ -17,8 +18,9 @@ pub fn sum<K: Coefficient>(a: &[K], b: &[K], out: &mut [K]) -> Result<(), RingFa
     if Class::with_size(a.len()).is_none() || b.len() != a.len() || out.len() != a.len() {
         return Err(RingFault::Length);
     }
-    for i in 0..a.len() {
-        out[i] = a[i].plus(b[i]);
+    // After a loop over `out.iter_mut().zip(..)` nothing is known of what was written.
+    for (i, x) in a.iter().enumerate() {
+        out[i] = x.plus(b[i]);
     }
     Ok(())
 }
@@ -31,8 +33,8 @@ pub fn adjoint<K: Coefficient>(a: &[K], out: &mut [K]) -> Result<(), RingFault>
     if Class::with_size(a.len()).is_none() || out.len() != a.len() {
         return Err(RingFault::Length);
     }
-    for i in 0..a.len() {
-        out[i] = adjoint_at(a, i);
+    for (i, z) in out.iter_mut().enumerate() {
+        *z = adjoint_at(a, i);
     }
     Ok(())
 }

@@ -13,9 +13,9 @@ use crate::kind::Coefficient;
 fn cross<K: Coefficient>(a: &[K], b: &[K]) -> K
     ensures { K.residue result ≡ rest K.modulus (crossed (values K.residue a.now) (values K.residue b.now)) }
 {
-    let mut sum = K::nought();
-    for i in 0..a.len().min(b.len()) {
-        sum = sum.plus(a[i].times(b[b.len() - 1 - i]));
+    let mut sum = K::ZERO;
+    for (x, y) in a.iter().zip(b.iter().rev()) {
+        sum = sum.plus(x.times(*y));
     }
     sum
 }
@@ -25,10 +25,11 @@ fn cross<K: Coefficient>(a: &[K], b: &[K]) -> K
 pub fn coefficient<K: Coefficient>(a: &[K], b: &[K], k: usize) -> K
     ensures { K.residue result ≡ rest K.modulus (coefficient_of (values K.residue a.now) (values K.residue b.now) k) }
 {
-    let a_cut = k.saturating_add(1).min(a.len());
-    let b_cut = k.saturating_add(1).min(b.len());
-    let straight = cross(&a[0..a_cut], &b[0..b_cut]);
-    let around = cross(&a[a_cut..], &b[b_cut..]);
+    let count = k.saturating_add(1);
+    let (a_low, a_high) = a.split_at(count.min(a.len()));
+    let (b_low, b_high) = b.split_at(count.min(b.len()));
+    let straight = cross(a_low, b_low);
+    let around = cross(a_high, b_high);
     straight.plus(around.negated())
 }
 
@@ -39,8 +40,8 @@ pub fn product<K: Coefficient>(a: &[K], b: &[K], out: &mut [K]) -> Result<(), Ri
     if Class::with_size(a.len()).is_none() || b.len() != a.len() || out.len() != a.len() {
         return Err(RingFault::Length);
     }
-    for k in 0..a.len() {
-        out[k] = coefficient(a, b, k);
+    for (k, z) in out.iter_mut().enumerate() {
+        *z = coefficient(a, b, k);
     }
     Ok(())
 }

@@ -9,6 +9,8 @@ use crate::class::Class;
 use crate::fault::RingFault;
 use crate::kind::Coefficient;
 
+// That the turn is below n is no ghost field: a generic struct with one derives no `Clone`, and one
+// by hand would be no plainer.
 #[derive(Clone, Copy)]
 pub struct Turned<'a, K> {
     numbers: &'a [K],

@@ -34,11 +34,21 @@ impl Number for i32 {
     }
 }
 
+impl Number for i64 {
+    ghost value = { λ x. x };
+
+    fn word(self) -> i64 {
+        self
+    }
+}
+
 // Writes the numbers over the front of the words, as far as there is room.
 pub fn widen<S: Number>(numbers: &[S], words: &mut [i64])
     ensures { words.new ≡ over (map S.value numbers.now) words.old }
 {
-    for i in 0..numbers.len().min(words.len()) {
-        words[i] = numbers[i].word();
+    // After a loop over `words.iter_mut().zip(..)` nothing is known of what was written.
+    let room = numbers.len().min(words.len());
+    for (i, number) in numbers[..room].iter().enumerate() {
+        words[i] = number.word();
     }
 }

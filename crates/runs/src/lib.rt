@@ -5,22 +5,16 @@
 ghost use Rattle.runs.specs.Sealed.{SessionsAreLawful, KeysStayHidden, SessionsAreSealed};
 
 /// Every issued signature is accepted, no hash gets two signatures, and no two hashes are signed with one sample.
-pub fn lawful_sessions() -> u8
+pub fn lawful_sessions()
     ensures { SessionsAreLawful }
-{
-    0
-}
+{}
 
 /// Two keys with one form: the same calls, with U·x for each sample x, show the same.
-pub fn hidden_keys() -> u8
+pub fn hidden_keys()
     ensures { KeysStayHidden }
-{
-    0
-}
+{}
 
 /// Both, for a session just opened on a key, and that the key's form belongs to exactly 4n keys.
-pub fn sealed_sessions() -> u8
+pub fn sealed_sessions()
     ensures { SessionsAreSealed }
-{
-    0
-}
+{}

@@ -4,7 +4,7 @@ ghost use Rattle.scheme.specs.Refusals.{check_fault, session_fault};
 
 use ring::{Fault, Layer};
 
-#[derive(Clone, Copy)]
+#[derive(Clone, Copy, PartialEq, Eq, Debug)]
 pub enum CheckFault {
     // A hash, a signature or a scratch of another length than the form's class asks.
     Length,
@@ -16,6 +16,7 @@ pub enum CheckFault {
     Sign,
 }
 
+// The numbers of refusals stand where a fault becomes one.
 impl From<CheckFault> for Fault {
     ghost from_gives = { λ e r. r ≡ check_fault e };
 
@@ -34,7 +35,7 @@ impl From<CheckFault> for Fault {
     }
 }
 
-#[derive(Clone, Copy)]
+#[derive(Clone, Copy, PartialEq, Eq, Debug)]
 pub enum SessionFault {
     // A hash, a sample, an area or a scratch of another length than the key's class asks.
     Length,
@@ -54,6 +55,7 @@ pub enum SessionFault {
     Logged,
 }
 
+// As above.
 impl From<SessionFault> for Fault {
     ghost from_gives = { λ e r. r ≡ session_fault e };
 

@@ -4,6 +4,8 @@
 
 mod fault;
 mod hash;
+mod limits;
 
 pub use fault::{CheckFault, SessionFault};
 pub use hash::hash_bit;
+pub use limits::{all_within, first_outside, within};

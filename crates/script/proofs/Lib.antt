@@ -1,6 +1,5 @@
-pub mod Steps
+pub mod Pairs
 pub mod Texts
 pub mod Returns
 pub mod Numerals
-pub mod Verbs
 pub mod Words

@@ -1,37 +1,36 @@
--- Decimal numbers, by cases.
-use Rattle.std.proofs.Common.{◌≡◌, ℕ, ◌+◌, ◌-◌, ◌*◌, ◌<◌, ◌≤◌, true, false, List, [], ◌∷◌, length, get_or, drop, Some, None, arith}
+-- Decimal numbers, as `parse` reads them.
+use Rattle.std.proofs.Common.{◌≡◌, ◌≢◌, ℕ, ◌^◌, ◌<◌, true, cond, nat_le, List, [], ◌∷◌, length, get_or, Some, None, Ok, Err, Option, Result, MatchResult, rules, refl, arith}
 use Rattle.std.specs.Char.{is_ascii_digit}
-use Rattle.std.proofs.lemmas.List.{at_drop_more, at_drop_all}
+use Rattle.std.specs.Str.Parse.{ParsesUnsigned}
+use Rattle.std.proofs.lemmas.Str.Parse.{IsNumeralModel, numerals_by_fold, parse_plain}
 use Rattle.std.proofs.lemmas.Bool.Decides.{nat_tests}
 use Rattle.script.specs.Hexadecimal.{every}
 use Rattle.script.specs.Operands.{followed, number_in}
 
-pub followed_more : (xs : List ℕ) (i n : ℕ) → i < length xs → followed n (drop i xs) ≡ followed (n * 10 + (get_or xs i 0 - 48)) (drop (i + 1) xs)
-unfolding followed
-followed_more xs i n h = at_drop_more (followed n) xs i 0 h
-
-pub followed_all : (xs : List ℕ) (i n : ℕ) → length xs ≤ i → followed n (drop i xs) ≡ n
-unfolding followed
-followed_all xs i n h = at_drop_all (followed n) xs i h
-
-pub followed_grows : (n : ℕ) (xs : List ℕ) → n ≤ followed n xs
-unfolding followed
-followed_grows n [] = omega arith
-followed_grows n (c ∷ xs) = omega (arith, followed_grows (n * 10 + (c - 48)) xs)
+decimals : IsNumeralModel (λ (ds : List ℕ). every is_ascii_digit ds ≡ true) (followed 0)
+unfolding every followed
+decimals = numerals_by_fold _ (search rules) followed (search rules)
 
 module _ (most : ℕ) (text : List ℕ) where
-  pub number_empty : length text ≡ 0 → number_in most text ≡ None
-  unfolding number_in
-  number_empty h = grind (arith, nat_tests)
+  -- digits only, at least one, of a number that fits
+  abbrev pub IsNumber : Type 0
+  IsNumber = (every is_ascii_digit text ≡ true) × (0 < length text) × (followed 0 text < 2 ^ 64)
 
-  pub number_no_digit : every is_ascii_digit text ≡ false → number_in most text ≡ None
-  unfolding number_in
-  number_no_digit h = grind (arith, nat_tests)
+  -- a plus is no digit
+  pub number_plus : get_or text 0 0 ≡ 43 → number_in most text ≡ None
+  unfolding number_in every
+  number_plus h = go text h
+    where
+      go : (text : List ℕ) → get_or text 0 0 ≡ 43 → number_in most text ≡ None
+      go [] h = refl
+      go (c ∷ digits) h = rw h (grind (arith, nat_tests))
 
-  pub number_large : most < followed 0 text → number_in most text ≡ None
+  pub number_parsed : {E : Type 0} (r : Result ℕ E) (out : Option ℕ) → ParsesUnsigned 64 10 text r → get_or text 0 0 ≢ 43 → most < 2 ^ 64
+      → MatchResult r (λ n. out ≡ cond (nat_le n most) (Some n) None) (λ _. out ≡ None) → out ≡ number_in most text
   unfolding number_in
-  number_large h = grind (arith, nat_tests)
-
-  pub number_is : (n : ℕ) → 0 < length text → every is_ascii_digit text ≡ true → followed 0 text ≡ n → n ≤ most → number_in most text ≡ Some n
-  unfolding number_in
-  number_is n some digits e small = grind (arith, nat_tests)
+  number_parsed (Ok n) out parsed plain small is =
+      let read : IsNumber × (n ≡ followed 0 text) = parse_plain decimals {E = Unit {0}} 64 text (Ok n) parsed plain in
+      grind (arith, nat_tests)
+  number_parsed (Err e) out parsed plain small is =
+      let read : ¬ IsNumber = parse_plain decimals 64 text (Err e) parsed plain in
+      grind (arith, nat_tests)

@@ -1,11 +1,13 @@
 -- Hexadecimal text: which bytes a text stands for, and the text of bytes, by cases.
-use Rattle.std.proofs.Common.{◌≡◌, ℕ, ◌+◌, ◌/◌, ◌%◌, ◌<◌, ◌≤◌, true, false, List, [], ◌∷◌, ◌++◌, length, get_or, drop, Some, None, codes, sym, refl, ap, ◌∙◌, inl, inr, append_assoc, append-nil, arith}
-use lib.Utf8.{encode}
+use Rattle.std.proofs.Common.{◌≡◌, ℕ, ◌+◌, ◌-◌, ◌/◌, ◌%◌, ◌^◌, ◌<◌, Bool, true, false, eqb, Decides, List, [], ◌∷◌, ◌++◌, length, get_or, take, Some, None, codes, sym, refl, ap, ◌∙◌, inl, inr, arith}
 use Rattle.std.specs.Char.{digit_char}
 use Rattle.std.specs.Str.{bytes_eq}
-use Rattle.std.proofs.lemmas.Str.Ascii.{encode_ascii}
-use Rattle.std.proofs.lemmas.Slice.Eq.{bytes_eq-Decides}
-use Rattle.std.proofs.lemmas.List.{at_drop_more, at_drop_all}
+use lib.Pointwise.{pointwise}
+use Rattle.std.proofs.lemmas.Bool.Decides.{Decides-eqb}
+use Rattle.std.proofs.lemmas.Slice.Eq.{bytes_eq-Decides, slice_eq-Decides}
+use Rattle.std.proofs.lemmas.List.{take_more}
+use Rattle.std.proofs.lemmas.Fmt.{hex_byte as byte_shown}
+use Rattle.std.specs.Fmt.{padded_integral, format_spec, digits}
 use Rattle.std.proofs.lemmas.Bool.{cases_Bool}
 use Rattle.script.specs.Hexadecimal.{by_twos, is_hex, hex_byte, hex_bytes, hex_digits, hex_text}
 
@@ -13,9 +15,9 @@ use Rattle.script.specs.Hexadecimal.{by_twos, is_hex, hex_byte, hex_bytes, hex_d
 pub differ : (xs ys : List ℕ) → (xs ≡ ys → ⊥) → bytes_eq xs ys ≡ false
 differ xs ys n = elim (cases_Bool (bytes_eq xs ys)) [ inl e ↦ absurd (n ((bytes_eq-Decides xs ys).0 e)) | inr e ↦ e ]
 
--- one ASCII character more
-pub pushed : (text after : List ℕ) (c d : ℕ) → after ≡ text ++ encode c → c < 128 → c ≡ d → after ≡ text ++ (d ∷ [])
-pushed text after c d e small same = e ∙ ap (λ (ys : List ℕ). text ++ ys) (encode_ascii c small ∙ ap (λ (x : ℕ). x ∷ []) same)
+-- the comparison with `-`
+pub is_dash : (text dash : List ℕ) (r : Bool) → r ≡ pointwise eqb text dash → dash ≡ 45 ∷ [] → Decides r (text ≡ 45 ∷ [])
+is_dash text dash r e d = slice_eq-Decides Decides-eqb text (45 ∷ []) r (e ∙ ap (pointwise eqb text) d)
 
 module _ (text : List ℕ) where
   pub bytes_dash : text ≡ 45 ∷ [] → hex_bytes text ≡ Some []
@@ -30,16 +32,25 @@ module _ (text : List ℕ) where
   unfolding hex_bytes
   bytes_some n e = rw (differ text (codes "-") n, e)
 
--- two digits for each byte, one byte on and at the end
-module _ (bytes : List ℕ) (i : ℕ) (out : List ℕ) (inv : out ++ hex_digits (drop i bytes) ≡ hex_digits bytes) where
-  pub digits_more : i < length bytes
-      → ((out ++ (digit_char (get_or bytes i 0 / 16) ∷ [])) ++ (digit_char (get_or bytes i 0 % 16) ∷ [])) ++ hex_digits (drop (i + 1) bytes) ≡ hex_digits bytes
-  unfolding hex_digits
-  digits_more h = simp append_assoc (ap (λ (ys : List ℕ). out ++ ys) (sym (at_drop_more hex_digits bytes i 0 h)) ∙ inv)
+-- what `{:02x}` writes of a byte
+abbrev pub shown : ℕ → List ℕ
+shown b = padded_integral (format_spec 32 0 4 2 (2 ^ 64 - 1)) false [] (digits 16 false b)
 
-  pub digits_all : length bytes ≤ i → out ≡ hex_digits bytes
-  unfolding hex_digits
-  digits_all h = sym (append-nil out) ∙ ap (λ (ys : List ℕ). out ++ ys) (sym (at_drop_all hex_digits bytes i h)) ∙ inv
+digits-append : (xs ys : List ℕ) → hex_digits (xs ++ ys) ≡ hex_digits xs ++ hex_digits ys
+unfolding hex_digits
+digits-append [] ys = refl
+digits-append (x ∷ xs) ys = ap (λ (t : List ℕ). digit_char (x / 16) ∷ digit_char (x % 16) ∷ t) (digits-append xs ys)
+
+pub digits_none : hex_digits [] ≡ []
+unfolding hex_digits
+digits_none = refl
+
+-- two digits more for each byte
+pub digits_more : (bytes : List ℕ) (i : ℕ) → i < length bytes → get_or bytes i 0 < 256 → hex_digits (take i bytes) ++ shown (get_or bytes i 0) ≡ hex_digits (take (i + 1) bytes)
+unfolding hex_digits
+digits_more bytes i h small =
+    ap (λ (t : List ℕ). hex_digits (take i bytes) ++ t) (byte_shown false (get_or bytes i 0) small)
+    ∙ sym (ap hex_digits (take_more bytes i 0 h) ∙ digits-append (take i bytes) (get_or bytes i 0 ∷ []))
 
 pub text_none : (bytes : List ℕ) → length bytes ≡ 0 → hex_text bytes ≡ 45 ∷ []
 unfolding hex_text

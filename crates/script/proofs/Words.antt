@@ -2,7 +2,7 @@
 use Rattle.std.proofs.Common.{◌≡◌, ℕ, zero, suc, ◌<◌, false, eqb, List, [], ◌∷◌, ◌++◌, length, get_or, Some, None, Option, refl, ap, ◌∙◌, inl, inr, arith, lit<, Bor, MatchOption}
 use Rattle.std.proofs.lemmas.Str.Pattern.{IsSplitOnceResult, split_parts}
 use Rattle.std.proofs.lemmas.Bool.{eq-eqb, ne_eqb, cases_Bool}
-use Rattle.script.specs.Meanings.{Bad, words, of_words, passed_over}
+use Rattle.script.specs.Meanings.{Bad, words, of_words}
 
 -- no space in the bytes
 abbrev pub Free : List ℕ → Type 0
@@ -58,8 +58,3 @@ pub four_bad : (line verb first second : List ℕ) (k : ℕ) → words line ≡ 
 four_bad line verb first second k e h s =
     let p = words_two second k h s in
     rw (e, p.3)
-
--- the first byte tells whether a line is passed over
-pub passed_some : (line : List ℕ) → (length line ≡ 0 → ⊥) → passed_over line ≡ eqb (get_or line 0 0) 35
-passed_some [] h = absurd (h refl)
-passed_some (b ∷ line) h = refl

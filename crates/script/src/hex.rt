@@ -1,12 +1,13 @@
 // Bytes as lower-case hexadecimal text.
-ghost use Rattle.std.specs.Prelude.{◌≡◌, ◌<◌, IfOk, Some, vec_items, string_bytes};
+ghost use Rattle.std.specs.Prelude.{◌≡◌, ◌&&◌, if◌then◌else◌, IfOk, Some, None, vec_items, string_bytes};
 ghost use Rattle.std.specs.Option.{option_map};
-ghost use Rattle.std.specs.Char.{digit_char};
-ghost use Rattle.script.specs.Hexadecimal.{every, by_twos, hex_digit, is_hex_digit, is_hex, hex_byte, hex_bytes, hex_digits, hex_text};
+ghost use Rattle.script.specs.Hexadecimal.{hex_digit, is_hex_digit, hex_byte, hex_bytes, hex_text};
 
 use std::alloc::{AllocError, Global};
+use std::fmt;
 
-fn digit(c: u8) -> Option<u8>
+// `char::to_digit` would take upper case as well.
+pub fn hex_digit(c: u8) -> Option<u8>
     ensures { result ≡ hex_digit c }
 {
     match c {
@@ -16,39 +17,11 @@ fn digit(c: u8) -> Option<u8>
     }
 }
 
-// The byte that two digits stand for.
-fn byte(high: u8, low: u8) -> u8
-    ensures { result ≡ hex_byte high low }
+// The byte that two digits stand for, the higher one first.
+fn byte(high: u8, low: u8) -> Option<u8>
+    ensures { result ≡ (if is_hex_digit high && is_hex_digit low then Some (hex_byte high low) else None) }
 {
-    digit(high).unwrap_or(0) * 16 + digit(low).unwrap_or(0)
-}
-
-fn all_digits(text: &[u8]) -> bool
-    ensures { result ≡ every is_hex_digit text.now }
-{
-    for c in text {
-        if digit(*c).is_none() {
-            return false;
-        }
-    }
-    true
-}
-
-fn is_hex(text: &[u8]) -> bool
-    ensures { result ≡ is_hex text.now }
-{
-    !text.is_empty() && text.len() % 2 == 0 && all_digits(text)
-}
-
-// A byte for every two digits.
-fn pairs(heap: Global, text: &[u8]) -> Result<Vec<u8>, AllocError>
-    ensures { IfOk result (λ v. v.items ≡ by_twos hex_byte text.now) }
-{
-    let mut out = Vec::new(heap);
-    for i in 0..text.len() / 2 {
-        out.push(byte(text[2 * i], text[2 * i + 1]))?;
-    }
-    Ok(out)
+    Some(hex_digit(high)? * 16 + hex_digit(low)?)
 }
 
 // The bytes that text stands for, where it is hexadecimal; `-` stands for none.
@@ -58,36 +31,36 @@ pub fn hex_bytes(heap: Global, text: &[u8]) -> Result<Option<Vec<u8>>, AllocErro
     if text == b"-".as_slice() {
         return Ok(Some(Vec::new(heap)));
     }
-    if !is_hex(text) {
+    let (pairs, odd) = text.as_chunks::<2>();
+    if pairs.is_empty() || !odd.is_empty() {
         return Ok(None);
     }
-    let bytes = pairs(heap, text)?;
+    let mut bytes = Vec::new(heap);
+    for &[high, low] in pairs {
+        let Some(b) = byte(high, low) else {
+            return Ok(None);
+        };
+        bytes.push(b)?;
+    }
     Ok(Some(bytes))
 }
 
-// The digit of a value below 16.
-fn digit_char(d: u8) -> char
-    requires { d < 16 }
-    ensures value { result ≡ digit_char d }
-    ensures ascii { result < 128 }
-{
-    if d < 10 {
-        char::from(b'0' + d)
-    } else {
-        char::from(b'a' - 10 + d)
-    }
-}
+// Prints two digits for each byte; no bytes are written as `-`.
+#[derive(Clone, Copy)]
+pub(crate) struct Hex<'a>(pub(crate) &'a [u8]);
 
-// Two digits for each byte.
-fn digits(heap: Global, bytes: &[u8]) -> Result<String, AllocError>
-    ensures { IfOk result (λ t. string_bytes t ≡ hex_digits bytes.now) }
-{
-    let mut text = String::new(heap);
-    for b in bytes {
-        text.push(digit_char(*b / 16))?;
-        text.push(digit_char(*b % 16))?;
+impl fmt::Display for Hex<'_> {
+    ghost output = { λ hex. Some (hex_text hex.0.now) };
+
+    fn fmt<W: fmt::Write>(&self, f: &mut fmt::Formatter<W>) -> fmt::Result {
+        if self.0.is_empty() {
+            return f.write_str("-");
+        }
+        for &b in self.0 {
+            write!(f, "{b:02x}")?;
+        }
+        Ok(())
     }
-    Ok(text)
 }
 
 // The text of bytes; no bytes are written as `-`. It stands for those bytes.
@@ -95,8 +68,5 @@ pub fn hex_text(heap: Global, bytes: &[u8]) -> Result<String, AllocError>
     ensures text { IfOk result (λ t. string_bytes t ≡ hex_text bytes.now) }
     ensures back { hex_bytes (hex_text bytes.now) ≡ Some bytes.now }
 {
-    if bytes.is_empty() {
-        return String::from_str(heap, "-");
-    }
-    digits(heap, bytes)
+    Hex(bytes).to_string(heap)
 }

@@ -6,7 +6,7 @@ mod line;
 mod operand;
 mod reply;
 
-pub use hex::{hex_bytes, hex_text};
+pub use hex::{hex_bytes, hex_digit, hex_text};
 pub use line::{Line, read_line};
 pub use operand::sample;
 pub use reply::{Reply, bytes_text, reply_text, signed_text, target_text};

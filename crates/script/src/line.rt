@@ -1,7 +1,6 @@
 // The lines of a script.
 ghost use Rattle.std.specs.Prelude.{◌≡◌, IfOk};
-ghost use Rattle.script.specs.Operands.{number_in};
-ghost use Rattle.script.specs.Meanings.{Open, given, alone, with_bytes, with_one, with_two, words, of_words, passed_over, meaning, meaning_of};
+ghost use Rattle.script.specs.Meanings.{alone, with_bytes, with_one, with_two, words, of_words, passed_over, meaning, meaning_of};
 
 use crate::hex::hex_bytes;
 use crate::operand::{number, sample};
@@ -28,7 +27,7 @@ pub enum Line {
     Bad,
 }
 
-// A verb alone.
+// A verb alone. Verbs are words of the input, each with operands of its own: a match is plainer than a table.
 fn bare(verb: &str) -> Line
     ensures { meaning_of result ≡ alone verb.now }
 {
@@ -51,21 +50,8 @@ fn with_bytes(heap: Global, verb: &str, bytes: Vec<u8>) -> Result<Line, AllocErr
         "key" => Ok(Line::Key(bytes)),
         "load" => Ok(Line::Load(bytes)),
         "announce" => Ok(Line::Announce(bytes)),
-        "sign" => match sample(heap, bytes.as_slice())? {
-            Some(numbers) => Ok(Line::Sign(numbers)),
-            None => Ok(Line::Bad),
-        },
+        "sign" => Ok(sample(heap, bytes.as_slice())?.map_or(Line::Bad, Line::Sign)),
         _ => Ok(Line::Bad),
-    }
-}
-
-// The length of a log.
-fn opened(operand: &str) -> Line
-    ensures { meaning_of result ≡ given (number_in 16776960 operand.now) Open }
-{
-    match number(operand.as_bytes(), LONGEST) {
-        Some(length) => Line::Open(length),
-        None => Line::Bad,
     }
 }
 
@@ -74,7 +60,7 @@ fn with_one(heap: Global, verb: &str, operand: &str) -> Result<Line, AllocError>
     ensures { IfOk result (λ l. meaning_of l ≡ with_one verb.now operand.now) }
 {
     if verb == "open" {
-        return Ok(opened(operand));
+        return Ok(number(operand, LONGEST).map_or(Line::Bad, Line::Open));
     }
     match hex_bytes(heap, operand.as_bytes())? {
         Some(bytes) => with_bytes(heap, verb, bytes),
@@ -121,7 +107,8 @@ fn passed_over(line: &str) -> bool
     line.is_empty() || line.starts_with('#')
 }
 
-// What a line means.
+// What a line means. `FromStr` has no place for the heap.
+#[tactic(auto, unfolding(crate::specs::Meanings::meaning))]
 pub fn read_line(heap: Global, line: &str) -> Result<Line, AllocError>
     ensures { IfOk result (λ l. meaning_of l ≡ meaning line.now) }
 {

@@ -1,7 +1,7 @@
 -- The entries of a log: how many, whether a hash is one of them, and one more.
-use Rattle.std.proofs.Common.{◌≡◌, ℕ, zero, suc, ◌+◌, ◌*◌, ◌<◌, ◌≤◌, Bool, true, false, ◌||◌, List, [], ◌∷◌, ◌++◌, length, sym, refl, ap, ◌∙◌, ⊎_elim, mul-le-mul_right, add-mul, one-mul, add-one, arith}
+use Rattle.std.proofs.Common.{◌≡◌, ℕ, zero, suc, ◌+◌, ◌<◌, Bool, true, false, ◌||◌, List, [], ◌∷◌, ◌++◌, length, sym, refl, ap, ◌∙◌, ⊎_elim, add-one, arith}
 use Rattle.std.proofs.lemmas.List.{length_push}
-use Rattle.std.proofs.lemmas.Bool.{cases_eq, or_left, or_right}
+use Rattle.std.proofs.lemmas.Bool.{cases_eq, or_from, or_left, or_right}
 use Rattle.std.specs.Str.{bytes_eq}
 use Rattle.scheme.specs.Steps.{listed}
 use Rattle.session.specs.Logs.{chunk, chunks}
@@ -15,10 +15,6 @@ length_chunks size (suc count) bytes =
 pub chunks_more : (size count : ℕ) (bytes : List ℕ) → chunks size (count + 1) bytes ≡ chunks size count bytes ++ (chunk size count bytes ∷ [])
 unfolding chunks
 chunks_more size count bytes = rw add-one
-
--- entry k of several ends within them
-pub place_within : (size k count : ℕ) → k < count → k * size + size ≤ count * size
-place_within size k count h = let p : k + 1 ≤ count = omega arith in omega (arith, mul-le-mul_right size p, add-mul k 1 size, one-mul size)
 
 or_assoc : (a b c : Bool) → (a || (b || c)) ≡ ((a || b) || c)
 or_assoc true b c = refl
@@ -34,12 +30,6 @@ listed_push [] entry hash = or_none (bytes_eq entry hash)
 listed_push (e ∷ entries) entry hash =
     ap (λ t. bytes_eq e hash || t) (listed_push entries entry hash) ∙ or_assoc (bytes_eq e hash) (listed entries hash) (bytes_eq entry hash)
 
--- one more entry
-pub listed_more : (size count : ℕ) (bytes hash : List ℕ)
-    → listed (chunks size (count + 1) bytes) hash ≡ (listed (chunks size count bytes) hash || bytes_eq (chunk size count bytes) hash)
-listed_more size count bytes hash =
-    ap (λ es. listed es hash) (chunks_more size count bytes) ∙ listed_push (chunks size count bytes) (chunk size count bytes) hash
-
 -- an entry is found among all
 pub listed_at : (size k count : ℕ) (bytes hash : List ℕ) → k < count → bytes_eq (chunk size k bytes) hash ≡ true
     → listed (chunks size count bytes) hash ≡ true
@@ -53,3 +43,12 @@ listed_at size k (suc count) bytes hash h e =
     (λ (other : k ≡ count → ⊥). or_left (listed (chunks size count bytes) hash) (bytes_eq (chunk size count bytes) hash)
     (listed_at size k count bytes hash (omega arith) e))
     (cases_eq k count)
+
+-- a hash that no entry equals is not found
+pub listed_nowhere : (size count : ℕ) (bytes hash : List ℕ) → ((k : ℕ) → k < count → bytes_eq (chunk size k bytes) hash ≡ false)
+    → listed (chunks size count bytes) hash ≡ false
+unfolding listed chunks
+listed_nowhere size zero bytes hash h = refl
+listed_nowhere size (suc count) bytes hash h =
+    listed_push (chunks size count bytes) (chunk size count bytes) hash
+    ∙ or_from _ _ (listed_nowhere size count bytes hash (λ k l. h k (omega arith))) (h count (omega arith))

@@ -1,5 +1,6 @@
 pub mod States
 pub mod Entries
+pub mod Runs
 pub mod Appends
 pub mod Outcomes
 pub mod Transitions

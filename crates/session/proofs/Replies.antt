@@ -1,5 +1,5 @@
 -- A reply that is no refusal is the answer of the call's work.
-use Rattle.std.proofs.Common.{◌≡◌, ℕ, Bool, List, ℤ, Some, None, Option, refl, ap, arith}
+use Rattle.std.proofs.Common.{◌≡◌, ℕ, Bool, List, ℤ, Some, None, Option, refl, ap}
 use Rattle.ring.specs.Faults.{first_failing}
 use Rattle.ring.specs.declared.class.Class.{Class}
 use Rattle.ring.specs.declared.fault.Fault.{Fault}
@@ -11,10 +11,10 @@ use Rattle.session.specs.declared.ask.Reply.{Reply}
 use Rattle.session.specs.declared.ask.Reply.TheVariants.{Ordered, Aimed, Signed, Withdrawn}
 
 never_refused : (reply : Reply) (f : Fault) → replied reply ≡ refused f → ⊥
-never_refused (Ordered number) f e = let z : ◌≡◌ {A = ℕ} 0 1 = cc in omega arith
-never_refused Aimed f e = let z : ◌≡◌ {A = ℕ} 0 1 = cc in omega arith
-never_refused (Signed length changed) f e = let z : ◌≡◌ {A = ℕ} 0 1 = cc in omega arith
-never_refused Withdrawn f e = let z : ◌≡◌ {A = ℕ} 0 1 = cc in omega arith
+never_refused (Ordered number) f e = cc
+never_refused Aimed f e = cc
+never_refused (Signed length changed) f e = cc
+never_refused Withdrawn f e = cc
 
 pub own_reply : (class : Class) (b : Basis) (state : State) (call : Call) (reply : Reply) {t : List ℕ} {s : List ℤ} {after : State}
     → gives (replied reply) t s after ≡ step class b state call → replied reply ≡ (work class b state call).answer
@@ -28,15 +28,15 @@ own_reply class b state call reply e =
 
 only_ordered : (reply : Reply) (number : ℕ) → replied reply ≡ ordered number → ((x : ℕ) → reply ≡ Ordered x → ⊥) → ⊥
 only_ordered (Ordered k) number e other = other k refl
-only_ordered Aimed number e other = let z : ◌≡◌ {A = ℕ} 0 1 = cc in omega arith
-only_ordered (Signed k changed) number e other = let z : ◌≡◌ {A = ℕ} 0 1 = cc in omega arith
-only_ordered Withdrawn number e other = let z : ◌≡◌ {A = ℕ} 0 1 = cc in omega arith
+only_ordered Aimed number e other = cc
+only_ordered (Signed k changed) number e other = cc
+only_ordered Withdrawn number e other = cc
 
 only_signed : (reply : Reply) (k : ℕ) (changed : Bool) → replied reply ≡ signed k changed → ((x : ℕ) (y : Bool) → reply ≡ Signed x y → ⊥) → ⊥
-only_signed (Ordered x) k changed e other = let z : ◌≡◌ {A = ℕ} 0 1 = cc in omega arith
-only_signed Aimed k changed e other = let z : ◌≡◌ {A = ℕ} 0 1 = cc in omega arith
+only_signed (Ordered x) k changed e other = cc
+only_signed Aimed k changed e other = cc
 only_signed (Signed x y) k changed e other = other x y refl
-only_signed Withdrawn k changed e other = let z : ◌≡◌ {A = ℕ} 0 1 = cc in omega arith
+only_signed Withdrawn k changed e other = cc
 
 module _ (class : Class) (b : Basis) (state : State) (reply : Reply) {t : List ℕ} {s : List ℤ} {after : State} where
   pub announce_orders : (hash : List ℕ) → gives (replied reply) t s after ≡ step class b state (announce hash) → ((x : ℕ) → reply ≡ Ordered x → ⊥) → ⊥

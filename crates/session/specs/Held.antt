@@ -1,5 +1,5 @@
 -- What a session in memory stands for. Assumes nothing.
-use Rattle.std.specs.Prelude.{◌*◌, take, drop}
+use Rattle.std.specs.Prelude.{◌≡◌, ◌*◌, take, drop}
 use Rattle.key.specs.Held.{basis_of}
 use Rattle.ring.specs.Classes.{hash_length_of}
 use Rattle.scheme.specs.Sessions.{State, Call, Step}
@@ -20,3 +20,8 @@ state_of session = record {
 -- what a call does to it
 abbrev pub step_of : Session → Call → Step
 step_of session call = step session.key.now.class (basis_of session.key.now) (state_of session) call
+
+-- two sessions, or one at two times, with one key and a log of one lender
+pub record SameLoans (one other : Session) : Type 0 where
+  pub key : other.key.now ≡ one.key.now
+  pub lender : other.log.ghost_name ≡ one.log.ghost_name

@@ -15,6 +15,11 @@ impl Order {
     {
         self.number
     }
+
+    // Ends an order.
+    pub(crate) fn end(self) {
+        let Order { number: _ } = self;
+    }
 }
 
 // What sign and withdraw give back where they refuse: the fault, and the order.
@@ -23,7 +28,7 @@ pub struct Returned {
     pub order: Order,
 }
 
-// The signatures issued, how many may be issued, and whether an order stands.
+// The signatures issued, how many may be issued, and whether an order stands: what `count` answers, no state.
 #[derive(Clone, Copy)]
 pub struct Count {
     pub issued: u32,

@@ -1,6 +1,8 @@
 -- Coefficients of a·x − b·y, in words.
-use Rattle.std.proofs.Common.{◌≡◌, ℕ, ◌^◌, ◌<◌, ◌≤◌, List, length, get_or, ℤ, pos, ◌-ℤ◌, neg_ℤ, nat_abs, sym, ap, ◌∙◌, arith, w64, SFits, to_z, of_z}
+use Rattle.std.proofs.Common.{◌≡◌, ℕ, ◌^◌, ◌<◌, ◌≤◌, ◌⊎◌, List, length, get_or, ℤ, pos, ◌-ℤ◌, neg_ℤ, nat_abs, sym, ap, ◌∙◌, inl, inr, arith, w64, SFits, to_z, of_z}
 use Rattle.std.proofs.lemmas.Int.{to_z-of_z}
+use Rattle.std.proofs.lemmas.List.{get_or_past}
+use Rattle.std.proofs.lemmas.Bool.{cases_lt}
 use Rattle.ring.specs.Elements.{coefficient, product}
 use Rattle.ring.specs.Kinds.{rest, values, word_value}
 use Rattle.ring.proofs.Exact.{exact_coefficient}
@@ -44,11 +46,15 @@ module _ (a b x y : List ℤ) (row : SmallRow a b x y) where
         product_small b y k (bounded_from key_limit b row.b_small) (bounded_from sample_limit y row.y_small) few_b,
       )
 
-  pub apart_small : (k : ℕ) (v : ℤ) → k < length a → v ≡ get_or (apart a b x y) k (pos 0) → nat_abs v ≤ 2 ^ 26
-  apart_small k v h e = omega (arith, minus_small k, ap nat_abs (e ∙ apart_at k h))
+  pub apart_fits : (k : ℕ) → SFits w64 (get_or (apart a b x y) k (pos 0))
+  apart_fits k = fits_word (get_or (apart a b x y) k (pos 0)) (go (cases_lt k (length a)))
+    where
+      go : (k < length a) ⊎ (length a ≤ k) → nat_abs (get_or (apart a b x y) k (pos 0)) < 2 ^ 63
+      go (inl h) = omega (arith, minus_small k, ap nat_abs (apart_at k h))
+      go (inr h) = omega (arith, ap nat_abs (get_or_past (apart a b x y) k (pos 0) (omega (arith, length_apart a b x y row.same))))
 
   -- the difference of two such words
-  module _ (k : ℕ) (h : k < length a) (r s : ℤ) (r-fits : SFits w64 r) (s-fits : SFits w64 s)
+  module _ (k : ℕ) (r s : ℤ) (r-fits : SFits w64 r) (s-fits : SFits w64 s)
       (r-is : word_value r ≡ rest (2 ^ 64) (coefficient (values word_value a) (values word_value x) k))
       (s-is : word_value s ≡ rest (2 ^ 64) (coefficient (values word_value b) (values word_value y) k)) where
     r_exact : to_z w64 (of_z w64 r) ≡ coefficient a x k
@@ -60,5 +66,11 @@ module _ (a b x y : List ℤ) (row : SmallRow a b x y) where
     pub minus_fits : SFits w64 (to_z w64 (of_z w64 r) -ℤ to_z w64 (of_z w64 s))
     minus_fits = rw (r_exact, s_exact) (fits_word (coefficient a x k -ℤ coefficient b y k) (omega (arith, minus_small k)))
 
-    pub minus_is : to_z w64 (of_z w64 (to_z w64 (of_z w64 r) -ℤ to_z w64 (of_z w64 s))) ≡ get_or (apart a b x y) k (pos 0)
-    minus_is = to_z-of_z w64 (to_z w64 (of_z w64 r) -ℤ to_z w64 (of_z w64 s)) minus_fits ∙ rw (r_exact, s_exact) (sym (apart_at k h))
+    minus_is : to_z w64 (of_z w64 (to_z w64 (of_z w64 r) -ℤ to_z w64 (of_z w64 s))) ≡ coefficient a x k -ℤ coefficient b y k
+    minus_is = to_z-of_z w64 (to_z w64 (of_z w64 r) -ℤ to_z w64 (of_z w64 s)) minus_fits ∙ rw (r_exact, s_exact)
+
+    pub word_is : k < length a → to_z w64 (of_z w64 (to_z w64 (of_z w64 r) -ℤ to_z w64 (of_z w64 s))) ≡ get_or (apart a b x y) k (pos 0)
+    word_is h = minus_is ∙ sym (apart_at k h)
+
+    pub word_small : nat_abs (to_z w64 (of_z w64 (to_z w64 (of_z w64 r) -ℤ to_z w64 (of_z w64 s)))) ≤ 2 ^ 26
+    word_small = omega (arith, minus_small k, ap nat_abs minus_is)

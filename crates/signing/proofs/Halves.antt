@@ -28,15 +28,15 @@ module _ (hash : List ℕ) (from : ℕ) (changed : Bool) (v : List ℤ) where
   unfolding half_from
   length_half = length-map (difference (map (hash_bit hash) (range_with_len from (length v))) (cond changed (negative v) v)) half ∙ whole_long
 
-  pub half_at : (k bit : ℕ) (z : ℤ) → k < length v → pos bit ≡ hash_bit hash (from + k) → z ≡ get_or v k (pos 0) → half (pos bit -ℤ cond changed (neg_ℤ z) z) ≡ get_or (half_from hash from changed v) k (pos 0)
+  pub half_at : (k : ℕ) (z : ℤ) → k < length v → z ≡ get_or v k (pos 0) → half (hash_bit hash (from + k) -ℤ cond changed (neg_ℤ z) z) ≡ get_or (half_from hash from changed v) k (pos 0)
   unfolding half_from
-  half_at k bit z h eb ez =
+  half_at k z h e =
       let H = map (hash_bit hash) (range_with_len from (length v)) in
       let W = cond changed (negative v) v in
       let lh : length H ≡ length v = length-map-range_with_len (hash_bit hash) from (length v) in
       let lw : length W ≡ length v = length_signed changed v in
-      let entry : get_or (difference H W) k (pos 0) ≡ pos bit -ℤ cond changed (neg_ℤ z) z =
+      let entry : get_or (difference H W) k (pos 0) ≡ hash_bit hash (from + k) -ℤ cond changed (neg_ℤ z) z =
       difference_at H W k (omega arith) (omega arith)
-      ∙ ap (λ t. t -ℤ get_or W k (pos 0)) (get_or-map-range_with_len (hash_bit hash) from (length v) k (from + k) (pos 0) h refl ∙ sym eb)
-      ∙ ap (λ t. pos bit -ℤ t) (signed_at changed v k h ∙ ap (λ t. cond changed (neg_ℤ t) t) (sym ez)) in
+      ∙ ap (λ t. t -ℤ get_or W k (pos 0)) (get_or-map-range_with_len (hash_bit hash) from (length v) k (from + k) (pos 0) h refl)
+      ∙ ap (λ t. hash_bit hash (from + k) -ℤ t) (signed_at changed v k h ∙ ap (λ t. cond changed (neg_ℤ t) t) (sym e)) in
       sym (get_or-map half (difference H W) k (pos 0) (pos 0) (omega (arith, whole_long)) ∙ ap half entry)

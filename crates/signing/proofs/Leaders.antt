@@ -1,8 +1,6 @@
 -- The first number of a list that is not 0, and its sign.
-use Rattle.std.proofs.Common.{◌≡◌, ℕ, suc, ◌+◌, ◌<◌, ◌≤◌, true, false, List, length, get_or, drop, ℤ, pos, negsuc, sym, ap, arith, w64, SFits, of_z}
+use Rattle.std.proofs.Common.{◌≡◌, ℕ, suc, ◌+◌, Bool, true, false, not, cond, eqb, List, [], ◌∷◌, map, find, ℤ, pos, negsuc, Option, Some, None, sym, refl, ◌∙◌, arith, w64, SFits, of_z}
 use Rattle.std.specs.List.{prefix_len}
-use Rattle.std.proofs.lemmas.List.{get_or_past}
-use Rattle.std.proofs.lemmas.List.Sums.{prefix_len-drop_yes, prefix_len-drop_no, prefix_len-drop_all}
 use Rattle.std.proofs.lemmas.Bool.{eq-eqb, ne_eqb}
 use Rattle.scheme.specs.Pairs.{is_zero, leader}
 
@@ -15,22 +13,36 @@ pub other_word : (v : ℤ) → (of_z w64 v ≡ 0 → ⊥) → is_zero v ≡ fals
 other_word (pos n) h = ne_eqb n 0 h
 other_word (negsuc n) h = ne_eqb (suc n) 0 (λ e. omega arith)
 
--- what a loop knows at place k: so far all are 0
-abbrev pub ZeroTo : List ℤ → ℕ → Type 0
-ZeroTo w k = k + prefix_len is_zero (drop k w) ≡ prefix_len is_zero w
+-- the test of a word is that of its number
+word_is_zero : (v : ℤ) → SFits w64 v → eqb (of_z w64 v) 0 ≡ is_zero v
+word_is_zero (pos n) fits = refl
+word_is_zero (negsuc n) fits = ne_eqb (of_z w64 (negsuc n)) 0 (λ e. omega (arith, fits.sfits)) ∙ sym (ne_eqb (suc n) 0 (λ e. omega arith))
 
-module _ (w : List ℤ) (k : ℕ) where
-  pub leader_more : k < length w → is_zero (get_or w k (pos 0)) ≡ true → ZeroTo w k → ZeroTo w (k + 1)
-  leader_more h e inv = omega (arith, inv, prefix_len-drop_yes is_zero w k (pos 0) h e)
+pub find_words : (f : ℕ → ℤ) → ((k : ℕ) → SFits w64 (f k)) → (ks : List ℕ)
+    → find (λ z. not (eqb (of_z w64 z) 0)) (map f ks) ≡ find (λ z. not (is_zero z)) (map f ks)
+find_words f fits [] = refl
+find_words f fits (k ∷ ks) = rw (word_is_zero (f k) (fits k), find_words f fits ks) refl
 
-  pub leader_found : k < length w → is_zero (get_or w k (pos 0)) ≡ false → ZeroTo w k → get_or w k (pos 0) ≡ leader w
-  unfolding leader
-  leader_found h e inv =
-      let at : k ≡ prefix_len is_zero w = omega (arith, inv, prefix_len-drop_no is_zero w k (pos 0) h e) in
-      ap (λ i. get_or w i (pos 0)) at
+-- the first number that is not 0 is the leader, where there is one
+find_leader : (w : List ℤ) → find (λ z. not (is_zero z)) w ≡ cond (is_zero (leader w)) None (Some (leader w))
+unfolding leader
+find_leader [] = refl
+find_leader (x ∷ w) = go (is_zero x) refl (find_leader w)
+  where
+    go : (b : Bool) → is_zero x ≡ b → find (λ z. not (is_zero z)) w ≡ cond (is_zero (leader w)) None (Some (leader w)) → find (λ z. not (is_zero z)) (x ∷ w) ≡ cond (is_zero (leader (x ∷ w))) None (Some (leader (x ∷ w)))
+    go true e rest = let more : 1 + prefix_len is_zero w ≡ suc (prefix_len is_zero w) = omega arith in rw (e, more) rest
+    go false e rest = rw e (rw e refl)
 
-  pub leader_none : length w ≤ k → ZeroTo w k → pos 0 ≡ leader w
-  unfolding leader
-  leader_none h inv =
-      let past : length w ≤ prefix_len is_zero w = omega (arith, inv, prefix_len-drop_all is_zero w k h) in
-      sym (get_or_past w (prefix_len is_zero w) (pos 0) past)
+none_case : (b : Bool) (z : ℤ) → ◌≡◌ {A = Option ℤ} None (cond b None (Some z)) → b ≡ true
+none_case true z e = refl
+none_case false z e = absurd (cc)
+
+some_case : (b : Bool) (z v : ℤ) → Some v ≡ cond b None (Some z) → (v ≡ z) × (b ≡ false)
+some_case true z v e = absurd (cc)
+some_case false z v e = (cc, refl)
+
+pub leader_none : (w : List ℤ) → find (λ z. not (is_zero z)) w ≡ None → is_zero (leader w) ≡ true
+leader_none w e = none_case _ (leader w) (sym e ∙ find_leader w)
+
+pub leader_some : (w : List ℤ) (v : ℤ) → find (λ z. not (is_zero z)) w ≡ Some v → (v ≡ leader w) × (is_zero (leader w) ≡ false)
+leader_some w v e = some_case _ (leader w) v (sym e ∙ find_leader w)

@@ -5,7 +5,6 @@ pub mod Aparts
 pub mod Leaders
 pub mod Halves
 pub mod Squares
-pub mod Words
 pub mod Agreements
 pub mod Sources
 pub mod Outcomes

@@ -1,9 +1,9 @@
 -- The first failing test of a sample.
-use Rattle.std.proofs.Common.{◌≡◌, ℕ, ◌*◌, ◌<◌, ◌≤◌, Bool, true, false, List, [], ◌∷◌, take, drop, ℤ, Some, None, Ok, Err, Result, ◌∙◌, subst}
+use Rattle.std.proofs.Common.{◌≡◌, ℕ, ◌<◌, ◌≤◌, Bool, true, false, List, [], ◌∷◌, take, drop, ℤ, Some, None, Result, subst}
 use Rattle.std.specs.Str.{bytes_eq}
-use Rattle.std.proofs.lemmas.Bool.{eq-eqb, le-leb, lt-leb, and_from, not_from_true, not_from_false}
-use Rattle.ring.specs.Classes.{size_of, bound_of, hash_length_of}
-use Rattle.ring.specs.Faults.{Test, first_failing, Answers}
+use Rattle.std.proofs.lemmas.Bool.{le-leb, lt-leb, not_from_true, not_from_false}
+use Rattle.ring.specs.Classes.{bound_of}
+use Rattle.ring.specs.Faults.{first_failing, Answers}
 use Rattle.ring.specs.declared.class.Class.{Class}
 use Rattle.ring.proofs.Firsts.{first_passes, first_fails}
 use Rattle.scheme.specs.Keys.{Basis}
@@ -15,20 +15,6 @@ use Rattle.scheme.specs.Steps.{sample_tests}
 use Rattle.scheme.specs.declared.fault.SessionFault.{SessionFault}
 use Rattle.scheme.specs.declared.fault.SessionFault.TheVariants.{Coset, Bound, Zero}
 use Rattle.signing.specs.Samples.{zero_test, Signed}
-use Rattle.signing.specs.Sizes.{sign_sizes}
-
--- the lengths are right, so the other tests answer
-pub sizes_pass : {T : Type 0} (class : Class) (hash sample area words : ℕ) (tests : List Test) (W : T → Type 0) (r : Result T SessionFault) → hash ≡ hash_length_of class → sample ≡ 2 * size_of class → area ≡ 2 * size_of class → words ≡ 4 * size_of class
-    → Answers session_fault tests W r → Answers session_fault (sign_sizes class hash sample area words ∷ tests) W r
-sizes_pass {T} class hash sample area words tests W r eh es ea ew answer = go r answer
-  where
-    passed : first_failing (sign_sizes class hash sample area words ∷ tests) ≡ first_failing tests
-    passed = first_passes (sign_sizes class hash sample area words) tests
-        (and_from _ _ (and_from _ _ (and_from _ _ (eq-eqb hash (hash_length_of class) eh) (eq-eqb sample (2 * size_of class) es)) (eq-eqb area (2 * size_of class) ea)) (eq-eqb words (4 * size_of class) ew))
-
-    go : (r : Result T SessionFault) → Answers session_fault tests W r → Answers session_fault (sign_sizes class hash sample area words ∷ tests) W r
-    go (Ok x) a = (passed ∙ a.0, a.1)
-    go (Err e) a = passed ∙ a
 
 module _ (class : Class) (b : Basis) (h x : Pair) where
   pub coset_fails : bytes_eq (parities x) (target_of b h) ≡ false → first_failing (sample_tests class b h x) ≡ Some (session_fault Coset)

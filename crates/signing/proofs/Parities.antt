@@ -1,9 +1,8 @@
 -- Numbers modulo 2 as bits.
-use Rattle.std.proofs.Common.{◌≡◌, ℕ, zero, suc, ◌/◌, ◌%◌, ◌^◌, ◌<◌, cond, eqb, List, get_or, ℤ, pos, negsuc, nat_abs, sym, refl, ap, ◌∙◌, mod-lt, arith, lit<, w64, of_z}
+use Rattle.std.proofs.Common.{◌≡◌, ℕ, zero, suc, ◌/◌, ◌%◌, ◌^◌, ◌<◌, cond, eqb, List, get_or, ℤ, pos, negsuc, nat_abs, refl, ap, ◌∙◌, mod-lt, arith, lit<, w64, of_z}
 use Rattle.std.specs.Int.{int_rem_euclid}
 use Rattle.ring.specs.Kinds.{rest}
 use Rattle.ring.specs.Below.{rest_below}
-use Rattle.ring.proofs.Residues.{rest_small}
 use Rattle.scheme.specs.Hashes.{hash_bit}
 
 bit_back : (k : ℕ) → k < 2 → cond (eqb k 1) 1 0 ≡ k
@@ -23,5 +22,5 @@ pub hash_small : (hash : List ℕ) (i r : ℕ) → pos r ≡ hash_bit hash i →
 unfolding hash_bit
 hash_small hash i r e = let below : get_or hash (i / 8) 0 / 2 ^ (i % 8) % 2 < 2 = mod-lt (get_or hash (i / 8) 0 / 2 ^ (i % 8)) (lit< tt) in omega (arith, ap nat_abs e, below)
 
-pub hash_bit_is : (hash : List ℕ) (i r : ℕ) → pos r ≡ hash_bit hash i → cond (eqb r 1) 1 0 ≡ rest 2 (hash_bit hash i)
-hash_bit_is hash i r e = bit_back r (hash_small hash i r e) ∙ sym (rest_small 2 r (hash_small hash i r e)) ∙ ap (rest 2) e
+pub hash_bit_is : (hash : List ℕ) (i r : ℕ) → pos r ≡ hash_bit hash i → pos (cond (eqb r 1) 1 0) ≡ hash_bit hash i
+hash_bit_is hash i r e = ap pos (bit_back r (hash_small hash i r e)) ∙ e

@@ -1,5 +1,5 @@
 -- v = B⁻¹·x as two differences of products, and the signature as two halves.
-use Rattle.std.proofs.Common.{◌≡◌, ℕ, ◌+◌, Bool, true, false, cond, List, [], ◌∷◌, ◌++◌, map, length, take, drop, ℤ, pos, negsuc, ◌+ℤ◌, ◌*ℤ◌, neg_ℤ, sym, refl, ap, ◌∙◌, arith}
+use Rattle.std.proofs.Common.{◌≡◌, ℕ, ◌+◌, Bool, true, false, cond, List, [], ◌∷◌, ◌++◌, map, length, take, drop, ℤ, pos, negsuc, ◌+ℤ◌, ◌*ℤ◌, neg_ℤ, refl, ap, ◌∙◌, arith}
 use borrow.Author.Differences.{same_in, sum_is_lem, neg_is, product_is}
 use lib.IntN.{+ℤ_comm}
 use lib.Signed.{lt_z}
@@ -73,19 +73,10 @@ pub below_zero : (z : ℤ) → lt_z z (pos 0) ≡ is_negative z
 below_zero (pos k) = le-ltb k 0 (omega arith)
 below_zero (negsuc k) = refl
 
--- what the leader of f·x1 − g·x0 says of the sample
-module _ (b : Basis) (x0 x1 f g : List ℤ) (f_is : f ≡ b.f) (g_is : g ≡ b.g) (r : ℤ) (r-is : r ≡ leader (apart f g x1 x0)) where
-  pub leader_is : r ≡ leader (source_of b (pair x0 x1)).second
-  leader_is = r-is ∙ rw (f_is, g_is) (ap leader (sym (second_is b x0 x1)))
-
-  pub changed_is : lt_z r (pos 0) ≡ changes (source_of b (pair x0 x1))
-  unfolding changes
-  changed_is = below_zero r ∙ ap is_negative leader_is
-
--- half of a signature, of equal elements
-pub half_same : (hash : List ℕ) (from from' : ℕ) (changed : Bool) (a b a' b' x y : List ℤ) → from ≡ from' → a ≡ a' → b ≡ b'
-    → half_from hash from changed (apart a b x y) ≡ half_from hash from' changed (apart a' b' x y)
-half_same hash from from' changed a b a' b' x y e ea eb = rw (e, ea, eb)
+-- the sign rule, by the leader of v1
+pub changed_is : (v : Pair) (r : ℤ) → r ≡ leader v.second → lt_z r (pos 0) ≡ changes v
+unfolding changes
+changed_is v r e = below_zero r ∙ ap is_negative e
 
 -- the signature, half by half
 module _ (n : ℕ) (hash : List ℕ) where
@@ -99,16 +90,9 @@ module _ (n : ℕ) (hash : List ℕ) where
   turned_is true v l0 l1 = rw (half_is 0 true v.first l0, half_is n true v.second l1)
   turned_is false v l0 l1 = rw (half_is 0 false v.first l0, half_is n false v.second l1)
 
-  pub signature_is : (b : Basis) (x0 x1 : List ℤ) (changed : Bool) (area : List ℤ) → length (apart b.G b.F x0 x1) ≡ n → length (apart b.f b.g x1 x0) ≡ n
-      → changed ≡ changes (source_of b (pair x0 x1))
-      → area ≡ half_from hash 0 changed (apart b.G b.F x0 x1) ++ half_from hash n changed (apart b.f b.g x1 x0)
-      → area ≡ numbers_of (signature_of b (hash_pair n hash) (pair x0 x1))
+  pub signature_is : (b : Basis) (x : Pair) (changed : Bool) → length (source_of b x).first ≡ n → length (source_of b x).second ≡ n → changed ≡ changes (source_of b x)
+      → half_from hash 0 changed (source_of b x).first ++ half_from hash n changed (source_of b x).second ≡ numbers_of (signature_of b (hash_pair n hash) x)
   unfolding signature_of oriented
-  signature_is b x0 x1 changed area l0 l1 e is =
-      let v = source_of b (pair x0 x1) in
-      let e0 = first_is b x0 x1 in
-      let e1 = second_is b x0 x1 in
-      is
-      ∙ sym (ap (λ w. half_from hash 0 changed w ++ half_from hash n changed v.second) e0 ∙ ap (λ w. half_from hash 0 changed (apart b.G b.F x0 x1) ++ half_from hash n changed w) e1)
-      ∙ turned_is changed v (ap length e0 ∙ l0) (ap length e1 ∙ l1)
-      ∙ ap (λ c. numbers_of (half_less (hash_pair n hash) (cond c (opposite v) v))) e
+  signature_is b x changed l0 l1 e =
+      let v = source_of b x in
+      turned_is changed v l0 l1 ∙ ap (λ c. numbers_of (half_less (hash_pair n hash) (cond c (opposite v) v))) e

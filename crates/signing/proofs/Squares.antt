@@ -1,7 +1,6 @@
 -- The sum of the squares of a sample.
-use Rattle.std.proofs.Common.{◌≡◌, ℕ, ◌+◌, ◌*◌, ◌^◌, ◌<◌, ◌≤◌, true, ◌⊎◌, List, [], ◌∷◌, length, get_or, take, drop, ℤ, pos, negsuc, ◌+ℤ◌, ◌*ℤ◌, nat_abs, sum_by, sym, refl, ap, ◌∙◌, inl, inr, mul-le-mul, arith}
-use Rattle.std.proofs.lemmas.List.{take_all}
-use Rattle.std.proofs.lemmas.List.Sums.{sum_by-cons, sum_by_more, sum_by-take-drop}
+use Rattle.std.proofs.Common.{◌≡◌, ℕ, ◌*◌, ◌<◌, ◌≤◌, true, ◌⊎◌, List, [], ◌∷◌, take, drop, ℤ, pos, negsuc, ◌+ℤ◌, ◌*ℤ◌, nat_abs, sum_by, sym, refl, ap, ◌∙◌, inl, inr, mul-le-mul, arith}
+use Rattle.std.proofs.lemmas.List.Sums.{sum_by-cons, sum_by-take-drop}
 use Rattle.std.proofs.lemmas.Bool.{le-leb, and_from, cases_lt}
 use Rattle.ring.specs.Elements.{dot}
 use Rattle.ring.specs.Classes.{bound_of}
@@ -28,23 +27,8 @@ unfolding dot
 dot_self [] = refl
 dot_self (x ∷ xs) = rw (square_is x, dot_self xs) (ap pos (sym (sum_by-cons square x xs)))
 
--- one number more, of 16 bits
-module _ (xs : List ℤ) (i sum size : ℕ) (h : i < length xs) (few : length xs ≤ 2048) (size_is : size ≡ nat_abs (get_or xs i (pos 0))) (small : size ≤ 2 ^ 15)
-    (sum_is_lem : sum ≡ squares (take i xs)) (below : sum ≤ 1073741824 * i) where
-  product_below : size * size ≤ 1073741824
-  product_below = mul-le-mul small small
-
-  pub sum_below : sum + size * size ≤ 1073741824 * (i + 1)
-  sum_below = omega (arith, product_below)
-
-  pub sum_fits : sum + size * size < 2 ^ 64
-  sum_fits = omega (arith, product_below)
-
-  pub sum_more : sum + size * size ≡ squares (take (i + 1) xs)
-  sum_more = rw (sum_is_lem, size_is) (sym (sum_by_more square xs i (pos 0) h))
-
-pub squares_all : (xs : List ℤ) (i sum : ℕ) → length xs ≤ i → sum ≡ squares (take i xs) → sum ≡ nat_abs (dot xs xs)
-squares_all xs i sum h e = e ∙ ap squares (take_all i xs h) ∙ sym (ap nat_abs (dot_self xs))
+pub squares_of : (xs : List ℤ) → squares xs ≡ nat_abs (dot xs xs)
+squares_of xs = sym (ap nat_abs (dot_self xs))
 
 -- the squared length of a pair
 pub length_is : (n : ℕ) (xs : List ℤ) → nat_abs (dot xs xs) ≡ length_of (pair_from n xs)

@@ -2,7 +2,7 @@
 #![tactic(auto)]
 
 mod bits;
-mod guard;
+mod half;
 mod rows;
 mod sample;
 mod sign;

@@ -11,23 +11,25 @@ ghost use Rattle.key.specs.Held.{basis_of};
 ghost use Rattle.signing.specs.Samples.{zero_test, ShortPair, ShortSample, Signed, SizedSample};
 ghost use Rattle.signing.specs.Sizes.{sign_sizes};
 
-use crate::rows::{row_half, row_leader};
+use crate::half::Half;
+use crate::rows::Row;
 use crate::sample::{in_coset, squared_length};
 use key::{Guard, Key};
 use ring::widen;
 use scheme::SessionFault;
 
 // The signature of the sample (x0, x1): G·x0 − F·x1 gives the first half, f·x1 − g·x0 the second and the
-// sign. Answers whether the sign changed. `row` holds two elements of the key meanwhile.
+// sign. Answers whether the sign changed. `words` holds two elements of the key meanwhile. Key, hash and
+// areas go on one by one, as the call lends them.
 fn sign_pair(
     key: &Key,
     hash: &[u8],
     x0: &[i64],
     x1: &[i64],
     area: &mut [i32],
-    row: &mut [i64],
+    words: &mut [i64],
 ) -> Result<bool, SessionFault>
-    requires { ShortPair key.now.class x0.now x1.now area.old row.old }
+    requires { ShortPair key.now.class x0.now x1.now area.old words.old }
     ensures answer { Answers session_fault (zero_test (basis_of key.now) (pair x0.now x1.now) ∷ []) (λ changed. Signed (basis_of key.now) (hash_pair (size_of key.now.class) hash.now) (pair x0.now x1.now) changed area.new) result }
     ensures kept { OnErr result (area.new ≡ area.old) }
 {
@@ -36,13 +38,21 @@ fn sign_pair(
     let g = key.g();
     let cap_f = key.cap_f();
     let cap_g = key.cap_g();
-    let first = row_leader(f, g, x1, x0, row);
-    if first == 0 {
+    let v1 = Row::new(f, g, x1, x0, words);
+    let Some(leader) = v1.leader() else {
         return Err(SessionFault::Zero);
-    }
-    let changed = first < 0;
-    row_half(cap_g, cap_f, x0, x1, hash, 0, changed, row, &mut area[0..n]);
-    row_half(f, g, x1, x0, hash, n, changed, row, &mut area[n..]);
+    };
+    let changed = leader < 0;
+    let (s0, s1) = area.split_at_mut(n);
+    let second = Half {
+        hash,
+        from: n,
+        changed,
+    };
+    second.write(&v1, s1);
+    let v0 = Row::new(cap_g, cap_f, x0, x1, words);
+    let first = Half { from: 0, ..second };
+    first.write(&v0, s0);
     Ok(changed)
 }
 
@@ -60,10 +70,11 @@ fn sign_short(
 {
     let n = key.class().size();
     let (x0, rest) = words.split_at_mut(n);
-    let (x1, rows) = rest.split_at_mut(n);
-    widen(&sample[0..n], x0);
-    widen(&sample[n..], x1);
-    sign_pair(key, hash, x0, x1, area, rows)
+    let (x1, row) = rest.split_at_mut(n);
+    let (first, second) = sample.split_at(n);
+    widen(first, x0);
+    widen(second, x1);
+    sign_pair(key, hash, x0, x1, area, row)
 }
 
 // The signature of a sample where all lengths are right; the squared length, and whether the sign changed.

@@ -9,10 +9,8 @@ fn signed(hash: u8, x0: i16, x1: i16) -> Result<(u32, bool, i32, i32), Fault> {
     let mut area = [7i32; 8];
     let mut scratch = [7i64; 16];
     let sample = [x0, 0, 0, 0, x1, 0, 0, 0];
-    match sign_sample(&key, &[hash], &sample, &mut area, &mut scratch) {
-        Ok((squares, changed)) => Ok((squares, changed, area[0], area[4])),
-        Err(fault) => Err(fault.into()),
-    }
+    let (squares, changed) = sign_sample(&key, &[hash], &sample, &mut area, &mut scratch)?;
+    Ok((squares, changed, area[0], area[4]))
 }
 
 fn fault(number: u8) -> Result<(u32, bool, i32, i32), Fault> {

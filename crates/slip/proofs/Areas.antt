@@ -1,8 +1,7 @@
 -- Areas with bytes written into them.
-use Rattle.std.proofs.Common.{◌≡◌, ℕ, ◌+◌, ◌-◌, ◌*◌, ◌≤◌, List, [], ◌++◌, length, take, drop, sym, refl, ap, ◌∙◌, add-zero, arith, length-append, length-drop, length-take}
+use Rattle.std.proofs.Common.{◌≡◌, ℕ, ◌+◌, ◌≤◌, List, [], ◌++◌, length, take, drop, sym, refl, ap, ◌∙◌, add-zero, arith, length-append, length-drop, length-take}
 use lib.Seq.{paste}
-use borrow.Rule.Slice.PartMut.{put_mid, post_of}
-use Rattle.std.proofs.lemmas.List.{take-append-drop, take_at, drop_at, drop_all, append-nil}
+use Rattle.std.proofs.lemmas.List.{take-append-drop, drop_all, append-nil}
 use Rattle.std.proofs.lemmas.List.Edits.{paste_all, paste-paste}
 use Rattle.slip.specs.Writes.{written}
 
@@ -43,14 +42,3 @@ unfolding written
 written_end place bytes area e =
     let h : length area ≤ place + length bytes = omega arith in
     rw (drop_all, append-nil)
-
--- a list whose two halves are written one after the other
-pub both_halves : {X : Type 0} (n : ℕ) (list one two : List X) → length list ≡ 2 * n → length one ≡ n → length two ≡ n
-    → put_mid n (2 * n - n) (one ++ post_of 0 (n - 0) list) two ≡ one ++ two
-both_halves n list one two l a b =
-    let t = take_at one (post_of 0 (n - 0) list) n a in
-    let d = drop_at one (post_of 0 (n - 0) list) n a in
-    let r : length (drop (n - 0) list) ≤ 2 * n - n = simp length-drop (omega arith) in
-    let e = drop_all (2 * n - n) (drop (n - 0) list) r in
-    let z = append-nil two in
-    cc

@@ -13,7 +13,7 @@ use Rattle.slip.specs.Slips.{report_bytes, section_bytes, size_named}
 use Rattle.slip.specs.Trailers.{Holds, Passes}
 use Rattle.slip.specs.Writes.{trailer_of, written}
 use Rattle.slip.proofs.Areas.{length_written, written_more, written_whole}
-use Rattle.slip.proofs.Bytes.{length_bytes32, numbers32_append}
+use Rattle.slip.specs.Laws.{length_bytes32, numbers32_append}
 use Rattle.slip.proofs.Sections.{file_length, report_is, section_is}
 use Rattle.slip.proofs.Trailers.{length_trailer, trailer_passes}
 
@@ -49,7 +49,7 @@ halves bytes n e =
     ap (λ k. numbers32 (take p (drop k bytes)) ++ numbers32 (take p (drop (1 * p) bytes))) (zero-mul p)
     ∙ ap (λ k. numbers32 (take p bytes) ++ numbers32 (take p (drop k bytes))) (one-mul p)
     ∙ ap (λ l. numbers32 (take p bytes) ++ numbers32 l) (take_all p (drop p bytes) d)
-    ∙ sym (numbers32_append (take p bytes) (drop p bytes) n l)
+    ∙ sym (numbers32_append n (take p bytes) (drop p bytes) l)
     ∙ ap numbers32 (take-append-drop p bytes)
 
 module _ (report : List ℕ) (numbers : List ℤ) (class : Class) (file : List ℕ)

@@ -12,7 +12,8 @@ use Rattle.slip.specs.Slips.{at16, at32, back, class_named, size_named, size_in,
 use Rattle.slip.specs.Trailers.{Holds, Passes}
 use Rattle.slip.specs.Writes.{trailer_of, written}
 use Rattle.slip.proofs.Areas.{written_end}
-use Rattle.slip.proofs.Bytes.{behind, at32_behind, at32_front}
+use Rattle.slip.specs.Laws.{behind, at32_behind}
+use Rattle.slip.proofs.Bytes.{at32_front}
 
 body_small : (kind : Kind) (class : Class) → body_of kind class + 8 < 2 ^ 32
 body_small Key One = lit< tt

@@ -6,3 +6,4 @@ pub mod Numbers
 pub mod Writes
 pub mod Signatures
 pub mod Trailers
+pub mod Laws

@@ -4,7 +4,8 @@ ghost use Rattle.slip.specs.Refusals.{slip_fault};
 
 use ring::{Fault, Layer};
 
-// A field's and a number's place is that of its first byte in the file.
+// A field's and a number's place is that of its first byte in the file. `AreaLength` and `ListLength` are one refusal;
+// the variant says which list is wrong.
 #[derive(Clone, Copy, PartialEq, Eq, Debug)]
 pub enum SlipFault {
     // A file that is too short, with its length.
@@ -27,12 +28,11 @@ impl From<SlipFault> for Fault {
     fn from(e: SlipFault) -> Fault {
         let (number, place) = match e {
             SlipFault::FileLength(length) => (1, length),
-            SlipFault::KindField(place) => (2, place),
-            SlipFault::ClassField(place) => (2, place),
-            SlipFault::SectionsField(place) => (2, place),
-            SlipFault::BackField(place) => (2, place),
-            SlipFault::AreaLength => (1, 0),
-            SlipFault::ListLength => (1, 0),
+            SlipFault::KindField(place)
+            | SlipFault::ClassField(place)
+            | SlipFault::SectionsField(place)
+            | SlipFault::BackField(place) => (2, place),
+            SlipFault::AreaLength | SlipFault::ListLength => (1, 0),
             SlipFault::Range(place) => (3, place),
         };
         Fault {

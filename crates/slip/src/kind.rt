@@ -7,21 +7,17 @@ use ring::Class;
 
 #[derive(Clone, Copy, PartialEq, Eq, Debug)]
 pub enum Kind {
-    Key,
-    Form,
-    Signature,
+    Key = 0x4B,
+    Form = 0x46,
+    Signature = 0x53,
 }
 
 impl Kind {
-    // The byte in a trailer.
+    // The byte in a trailer. Each of the three numbers has its name; `From` would not say which is meant.
     pub fn byte(self) -> u8
         ensures { result ≡ byte_of self }
     {
-        match self {
-            Kind::Key => 0x4B,
-            Kind::Form => 0x46,
-            Kind::Signature => 0x53,
-        }
+        self as u8
     }
 
     pub fn sections(self) -> usize
@@ -40,8 +36,7 @@ impl Kind {
     {
         match self {
             Kind::Key => 1,
-            Kind::Form => 4,
-            Kind::Signature => 4,
+            Kind::Form | Kind::Signature => 4,
         }
     }
 
@@ -49,11 +44,7 @@ impl Kind {
     pub fn takes_report(self) -> bool
         ensures { result ≡ takes_report self }
     {
-        match self {
-            Kind::Key => false,
-            Kind::Form => false,
-            Kind::Signature => true,
-        }
+        matches!(self, Kind::Signature)
     }
 
     // The bytes of a section.

@@ -10,7 +10,7 @@ mod writer;
 
 pub use fault::SlipFault;
 pub use kind::Kind;
-pub use numbers::{read8, read32, write8, write32};
+pub use numbers::{SlipNumber, read_numbers, write_numbers};
 pub use reader::{Part, Slip};
 pub use signature::{read_signature, write_signature};
 pub use writer::write_trailer;

@@ -1,11 +1,10 @@
 // Reading a slip from the end of a file.
-ghost use Rattle.std.specs.Prelude.{◌≡◌, ◌+◌, ◌<◌, ◌≤◌, true, length, is_some, IfSome};
+ghost use Rattle.std.specs.Prelude.{◌≡◌, ◌+◌, ◌<◌, ◌≤◌, true, length, is_some, Some, IfSome};
 ghost use Rattle.ring.specs.Classes.{size_of};
 ghost use Rattle.ring.specs.Faults.{Answers};
 ghost use Rattle.slip.specs.Kinds.{sections_of, part_of, body_of};
 ghost use Rattle.slip.specs.Refusals.{slip_fault};
-ghost use Rattle.slip.specs.Slips.{at16, at32, slip_tests};
-ghost use Rattle.slip.specs.Reads.{Read, IsReport, IsSection};
+ghost use Rattle.slip.specs.Slips.{slip_tests, class_named, body_place};
 
 use crate::fault::SlipFault;
 use crate::kind::Kind;
@@ -27,46 +26,30 @@ pub struct Slip<'a> {
     file: &'a [u8],
     kind: Kind,
     class: Class,
-}
-
-fn at16(bytes: &[u8], place: usize) -> u16
-    requires { place + 2 ≤ length bytes.now }
-    ensures { result ≡ at16 bytes.now place }
-{
-    u16::from_be_bytes([bytes[place], bytes[place + 1]])
-}
-
-pub(crate) fn at32(bytes: &[u8], place: usize) -> u32
-    requires { place + 4 ≤ length bytes.now }
-    ensures { result ≡ at32 bytes.now place }
-{
-    u32::from_be_bytes([
-        bytes[place],
-        bytes[place + 1],
-        bytes[place + 2],
-        bytes[place + 3],
-    ])
+    ghost named: { class_named file.now ≡ Some class },
+    ghost room: { body_of kind class + 8 ≤ length file.now },
 }
 
 impl<'a> Slip<'a> {
+    ghost use Rattle.slip.specs.Reads.{Read, IsReport, IsSection};
+
     // The slip of that kind at the file's end.
+    #[tactic(auto, unfolding(crate::specs::Slips::at16, crate::specs::Slips::at32, crate::specs::Slips::slip_tests, crate::specs::Slips::back, crate::specs::Slips::class_named, crate::specs::Slips::size_named))]
     pub fn read(file: &'a [u8], kind: Kind) -> Result<Slip<'a>, SlipFault>
         ensures { Answers slip_fault (slip_tests kind file.now) (λ s. Read kind file.now s) result }
     {
         let end = file.len();
-        if end < TRAILER {
+        let Some(&[byte, code, s0, s1, b0, b1, b2, b3]) = file.last_chunk::<TRAILER>() else {
             return Err(SlipFault::FileLength(end));
-        }
-        if file[end - 8] != kind.byte() {
+        };
+        if byte != kind.byte() {
             return Err(SlipFault::KindField(end - 8));
         }
-        let Some(class) = Class::with_code(file[end - 7]) else {
-            return Err(SlipFault::ClassField(end - 7));
-        };
-        if at16(file, end - 6) as usize != kind.sections() {
+        let class = Class::with_code(code).ok_or(SlipFault::ClassField(end - 7))?;
+        if usize::from(u16::from_be_bytes([s0, s1])) != kind.sections() {
             return Err(SlipFault::SectionsField(end - 6));
         }
-        let back = at32(file, end - 4) as usize;
+        let back = u32::from_be_bytes([b0, b1, b2, b3]) as usize;
         if back != kind.body_length(class) + TRAILER {
             return Err(SlipFault::BackField(end - 4));
         }
@@ -91,32 +74,40 @@ impl<'a> Slip<'a> {
         self.class
     }
 
+    // The body's first byte.
+    #[tactic(auto, unfolding(crate::specs::Slips::body_place))]
+    fn start(&self) -> usize
+        ensures { result ≡ body_place self.now.kind (size_of self.now.class) self.now.file.now }
+    {
+        let Slip { file, kind, class } = *self;
+        file.len() - (kind.body_length(class) + TRAILER)
+    }
+
     // What stands before the body.
+    #[tactic(auto, unfolding(crate::specs::Slips::body_place, crate::specs::Slips::report_bytes))]
     pub fn report(&self) -> Part<'a>
         ensures { IsReport self.now result }
     {
-        let Slip { file, kind, class } = *self;
-        let back = kind.body_length(class) + TRAILER;
-        let end = file.len().saturating_sub(back);
+        let file = self.file;
         Part {
-            bytes: &file[0..end],
+            bytes: &file[..self.start()],
             place: 0,
         }
     }
 
     // Section i of the body, counted from 0. Every section of a slip that was read is there.
+    #[tactic(auto, unfolding(crate::specs::Slips::body_place, crate::specs::Slips::section_there, crate::specs::Slips::section_place, crate::specs::Slips::section_bytes))]
     pub fn section(&self, i: usize) -> Option<Part<'a>>
         ensures part { IsSection self.now i result }
         ensures long { IfSome result (λ p. length p.bytes.now ≡ part_of self.now.kind (size_of self.now.class)) }
-        ensures succeeds { i < sections_of self.now.kind → body_of self.now.kind self.now.class + 8 ≤ length self.now.file.now → is_some result ≡ true }
+        ensures succeeds { i < sections_of self.now.kind → is_some result ≡ true }
     {
         let Slip { file, kind, class } = *self;
-        let back = kind.body_length(class) + TRAILER;
-        if i >= kind.sections() || file.len() < back {
+        if i >= kind.sections() {
             return None;
         }
         let length = kind.section_length(class);
-        let place = file.len() - back + i * length;
+        let place = self.start() + i * length;
         Some(Part {
             bytes: &file[place..place + length],
             place,

@@ -9,7 +9,7 @@ ghost use Rattle.slip.specs.Slips.{report_bytes, size_named};
 
 use crate::fault::SlipFault;
 use crate::kind::Kind;
-use crate::numbers::{get32, put32};
+use crate::numbers::{get_numbers, put_numbers};
 use crate::reader::{Part, Slip, TRAILER};
 use crate::writer::put_trailer;
 use ring::Class;
@@ -30,13 +30,11 @@ pub fn write_signature(numbers: &[i32], area: &mut [u8]) -> Result<(), SlipFault
     ensures kept { OnErr result (area.new ≡ area.old) }
     ensures back { OnOk result ((report : List ℕ) → ReadsAs report numbers.now (report ++ area.new)) }
 {
-    let Some(class) = class_of(numbers.len()) else {
-        return Err(SlipFault::ListLength);
-    };
+    let class = class_of(numbers.len()).ok_or(SlipFault::ListLength)?;
     if area.len() != Kind::Signature.body_length(class) + TRAILER {
         return Err(SlipFault::AreaLength);
     }
-    put32(numbers, area, 0);
+    put_numbers(numbers, area, 0);
     put_trailer(Kind::Signature, class, area);
     Ok(())
 }
@@ -51,7 +49,8 @@ pub fn read_signature<'a>(file: &'a [u8], numbers: &mut [i32]) -> Result<Part<'a
     if numbers.len() != 2 * n {
         return Err(SlipFault::ListLength);
     }
-    get32(slip.section(0).unwrap().bytes, &mut numbers[0..n]);
-    get32(slip.section(1).unwrap().bytes, &mut numbers[n..2 * n]);
+    let (s0, s1) = numbers.split_at_mut(n);
+    get_numbers(slip.section(0).unwrap().bytes, s0);
+    get_numbers(slip.section(1).unwrap().bytes, s1);
     Ok(slip.report())
 }

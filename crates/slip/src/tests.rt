@@ -6,11 +6,25 @@ const KEY: [u8; 24] = [
     1, 2, 3, 4, 5, 6, 7, 8, 9, 10, 11, 12, 13, 14, 15, 16, 0x4B, 1, 0, 4, 0, 0, 0, 24,
 ];
 
+#[test]
+fn numbers_back(rt: HostRuntime) -> Result<(), Fail> {
+    let mut area = [9u8; 12];
+    write_numbers(&[1i8, -1, i8::MIN], &mut area, 1)?;
+    write_numbers(&[-2i32, i32::MAX], &mut area, 4)?;
+    assert!(rt; area == [9, 1, 255, 128, 255, 255, 255, 254, 127, 255, 255, 255]);
+    let mut bytes = [0i8; 3];
+    read_numbers(&area[1..4], &mut bytes)?;
+    assert!(rt; bytes == [1, -1, i8::MIN]);
+    let mut words = [0i32; 2];
+    read_numbers(&area[4..], &mut words)?;
+    assert!(rt; words == [-2, i32::MAX]);
+    assert!(rt; write_numbers(&words, &mut area, 5) == Err(SlipFault::AreaLength));
+    assert!(rt; read_numbers(&area[5..], &mut words) == Err(SlipFault::ListLength));
+    Ok(())
+}
+
 fn refusal(file: &[u8], kind: Kind) -> Option<SlipFault> {
-    match Slip::read(file, kind) {
-        Ok(_) => None,
-        Err(e) => Some(e),
-    }
+    Slip::read(file, kind).err()
 }
 
 #[test]
@@ -29,26 +43,24 @@ fn short_files(rt: HostRuntime) {
     assert_eq!(rt; refusal(&file, Kind::Key), Some(SlipFault::ClassField(2)));
 }
 
-// The last n bytes of the key's file.
-fn ending(n: usize) -> Option<SlipFault> {
-    if n > 24 {
-        return None;
-    }
-    refusal(&KEY[24 - n..24], Kind::Key)
-}
-
 #[test]
 fn cut_files(rt: HostRuntime) {
     let file = [0x4B; 20];
     for n in 0..8 {
-        assert_eq!(rt; ending(n), Some(SlipFault::FileLength(n)));
+        assert_eq!(rt;
+            refusal(&KEY[24 - n..], Kind::Key),
+            Some(SlipFault::FileLength(n))
+        );
     }
     for n in 8..21 {
         assert_eq!(rt;
             refusal(&file[0..n], Kind::Key),
             Some(SlipFault::ClassField(n - 7))
         );
-        assert_eq!(rt; ending(n), Some(SlipFault::FileLength(n)));
+        assert_eq!(rt;
+            refusal(&KEY[24 - n..], Kind::Key),
+            Some(SlipFault::FileLength(n))
+        );
     }
 }
 
@@ -93,22 +105,12 @@ fn lengths(rt: HostRuntime) {
 
 #[test]
 fn sections(rt: HostRuntime) -> Result<(), Fail> {
-    let Ok(slip) = Slip::read(&KEY, Kind::Key) else {
-        return Err(Fail::new("refused"));
-    };
-    let Some(last) = slip.section(3) else {
-        return Err(Fail::new("no section"));
-    };
+    let slip = Slip::read(&KEY, Kind::Key)?;
+    let last = slip.section(3).ok_or("no section")?;
     assert_eq!(rt; last.place, 12);
     assert!(rt; last.bytes == &KEY[12..16]);
     assert!(rt; slip.section(4).is_none());
     Ok(())
-}
-
-fn write_both(one: &[i32], two: &[i32], file: &mut [u8]) -> bool {
-    file.len() == 80
-        && write_signature(one, &mut file[0..40]).is_ok()
-        && write_signature(two, &mut file[40..80]).is_ok()
 }
 
 // The report is itself a signature's slip.
@@ -117,11 +119,11 @@ fn signature_behind_a_slip(rt: HostRuntime) -> Result<(), Fail> {
     let one = [1, -1, 0, 256, -256, i32::MAX, i32::MIN, 7];
     let two = [8, 9, 10, 11, 12, 13, 14, 15];
     let mut file = [0u8; 80];
-    assert!(rt; write_both(&one, &two, &mut file));
+    let (front, back) = file.split_at_mut(40);
+    write_signature(&one, front)?;
+    write_signature(&two, back)?;
     let mut out = [0i32; 8];
-    let Ok(report) = read_signature(&file, &mut out) else {
-        return Err(Fail::new("refused"));
-    };
+    let report = read_signature(&file, &mut out)?;
     assert!(rt; out == two);
     assert_eq!(rt; report.bytes.len(), 40);
     assert!(rt; read_signature(report.bytes, &mut out).is_ok());

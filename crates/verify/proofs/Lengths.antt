@@ -1,7 +1,9 @@
 -- N from the two rows of a form.
-use Rattle.std.proofs.Common.{◌≡◌, ℕ, ◌^◌, ◌≤◌, Bool, true, false, ◌&&◌, List, [], ◌∷◌, ◌++◌, map, length, ℤ, ◌+ℤ◌, nat_abs, Result, sym, refl, ap, ◌∙◌, arith, w64, SFits, to_z, of_z}
+use Rattle.std.proofs.Common.{◌≡◌, ℕ, ◌^◌, ◌≤◌, true, false, ◌&&◌, List, [], ◌∷◌, ◌++◌, map, length, ℤ, ◌+ℤ◌, nat_abs, Result, sym, refl, ap, ◌∙◌, arith, w64, SFits, to_z, of_z}
+use Rattle.std.specs.Int.{int_wrap}
 use Rattle.std.proofs.lemmas.List.{length-map}
 use Rattle.std.proofs.lemmas.Int.{to_z-of_z}
+use Rattle.std.proofs.Math.Bool.{and_assoc}
 use Rattle.std.proofs.lemmas.Bool.{and_from, and_left, and_right}
 use Rattle.ring.specs.Calls.{of_class, length_test2}
 use Rattle.ring.specs.Classes.{size_of}
@@ -13,7 +15,6 @@ use Rattle.ring.specs.declared.class.Class.{Class}
 use Rattle.ring.specs.declared.class.Class.TheVariants.{One, Two, Three, Four}
 use Rattle.ring.specs.declared.fault.RingFault.{RingFault}
 use Rattle.ring.proofs.Fronts.{widened}
-use Rattle.ring.proofs.Places.{length_adjoint}
 use Rattle.ring.proofs.Sizes.{abs_sum, dot_size, bounded_adjoint, fits_word}
 use Rattle.scheme.specs.Keys.{Gram, within, all_within, form_limit}
 use Rattle.scheme.specs.Matrices.{applied, form_matrix, pairing}
@@ -30,75 +31,40 @@ size_class Two = refl
 size_class Three = refl
 size_class Four = refl
 
--- an element of a form
-pub record Element (n : ℕ) (a : List ℤ) : Type 0 where
-  pub long : length a ≡ n
-  pub small : all_within form_limit a ≡ true
-
-element_read : (n : ℕ) (numbers a : List ℤ) → numbers ≡ a → length numbers ≡ n → all_within form_limit a ≡ true → Element n a
-element_read n numbers a is long small = record { long = ap length (sym is) ∙ long; small = small }
-
-element_adjoint : (n : ℕ) (a : List ℤ) → Element n a → Element n (adjoint a)
-element_adjoint n a e = record {
-  long = length_adjoint a ∙ e.long;
-  small = bounded_all form_limit (adjoint a) (bounded_adjoint form_limit a (bounded_from form_limit a e.small));
-}
-
 -- the numbers of an element, written as words
-words_are : (n : ℕ) (numbers area words a : List ℤ) → numbers ≡ a → length numbers ≡ n → length area ≡ n → words ≡ over (map (λ x. x) numbers) area → words ≡ a
-words_are n numbers area words a is long room e = e ∙ widened numbers area (room ∙ sym long) ∙ is
+pub words_are : {n : ℕ} (numbers area words a : List ℤ) → numbers ≡ a → length numbers ≡ n → length area ≡ n → words ≡ over (map (λ x. x) numbers) area → words ≡ a
+words_are numbers area words a is long room e = e ∙ widened numbers area (room ∙ sym long) ∙ is
 
--- p holds the element a as words, and q the element b
-pub record Row (n : ℕ) (a b p q : List ℤ) : Type 0 where
-  pub p_is : map word_value p ≡ map word_value a
-  pub q_is : q ≡ b
-  pub a_element : Element n a
-  pub b_element : Element n b
+pub small_adjoint : (a : List ℤ) → all_within form_limit a ≡ true → all_within form_limit (adjoint a) ≡ true
+small_adjoint a small = bounded_all form_limit (adjoint a) (bounded_adjoint form_limit a (bounded_from form_limit a small))
 
-module _ (n : ℕ) (a b p q : List ℤ) (row : Row n a b p q) where
-  p_shown : shown p ≡ a
-  p_shown = shown_is p a row.p_is row.a_element.small
+-- the adjoint of an element, worked out in words
+pub star_shown : {T : Type 0} {q a : List ℤ} (class : Class) (p star : List ℤ) (result : Result T RingFault) → q ≡ a → length q ≡ size_of class → length p ≡ size_of class → all_within form_limit a ≡ true
+    → Answers ring_fault (length_test2 (length q) (length p) ∷ []) (λ _. map word_value star ≡ map (rest (2 ^ 64)) (adjoint (values word_value q))) result → shown star ≡ adjoint a
+star_shown {q = q} {a = a} class p star result is q_long p_long small answer =
+    let long : length a ≡ size_of class = ap length (sym is) ∙ q_long in
+    shown_is star (adjoint a) (star_is a q p star result is (ap of_class long ∙ size_class class) (p_long ∙ sym long) answer) (small_adjoint a small)
 
-  pub row_words : RowWords n (shown p) q
-  row_words = rw (p_shown, row.q_is) (record { p_long = row.a_element.long; q_long = row.b_element.long; p_small = row.a_element.small; q_small = row.b_element.small })
+-- a row of the form, which p and q show
+module _ {a b q : List ℤ} (p : List ℤ) (p_is : shown p ≡ a) (q_is : q ≡ b) where
+  pub row_words : (n : ℕ) → length p ≡ n → length q ≡ n → all_within form_limit a ≡ true → all_within form_limit b ≡ true → RowWords n (shown p) q
+  unfolding shown
+  row_words n p_long q_long p_small q_small = record {
+    p_long = length-map p (int_wrap w64) ∙ p_long;
+    q_long = q_long;
+    p_small = ap (all_within form_limit) p_is ∙ p_small;
+    q_small = ap (all_within form_limit) q_is ∙ q_small;
+  }
 
   pub row_is : (v0 v1 : List ℤ) → row_image (shown p) q v0 v1 ≡ row_image a b v0 v1
-  row_is v0 v1 = rw (p_shown, row.q_is)
-
--- q00 and q01, read out of a form and written over two areas
-pub first_row : (n : ℕ) (q : Gram) (n00 n01 area0 area1 p r : List ℤ) → n00 ≡ q.q00 → length n00 ≡ n → n01 ≡ q.q01 → length n01 ≡ n → length area0 ≡ n → length area1 ≡ n
-    → p ≡ over (map (λ x. x) n00) area0 → r ≡ over (map (λ x. x) n01) area1 → all_within form_limit q.q00 ≡ true → all_within form_limit q.q01 ≡ true → Row n q.q00 q.q01 p r
-first_row n q n00 n01 area0 area1 p r is00 long00 is01 long01 room0 room1 p_is r-is small00 small01 = record {
-  p_is = ap (map word_value) (words_are n n00 area0 p q.q00 is00 long00 room0 p_is);
-  q_is = words_are n n01 area1 r q.q01 is01 long01 room1 r-is;
-  a_element = element_read n n00 q.q00 is00 long00 small00;
-  b_element = element_read n n01 q.q01 is01 long01 small01;
-}
-
--- q01*, worked out from q01, and q11, written over q01
-pub second_row : {T : Type 0} (class : Class) (q : Gram) (p r star t n11 : List ℤ) (result : Result T RingFault) → Row (size_of class) q.q00 q.q01 p r
-    → Answers ring_fault (length_test2 (length r) (length p) ∷ []) (λ _. map word_value star ≡ map (rest (2 ^ 64)) (adjoint (values word_value r))) result
-    → n11 ≡ q.q11 → length n11 ≡ size_of class → t ≡ over (map (λ x. x) n11) r → all_within form_limit q.q11 ≡ true → Row (size_of class) (adjoint q.q01) q.q11 star t
-second_row class q p r star t n11 result row answer is11 long11 t-is small11 =
-    let long01 = row.b_element.long in
-    let p_long : length p ≡ length q.q00 = sym (length-map p word_value) ∙ ap length row.p_is ∙ length-map q.q00 word_value in
-    record {
-      p_is = star_is q.q01 r p star result row.q_is (ap of_class long01 ∙ size_class class) (p_long ∙ row.a_element.long ∙ sym long01) answer;
-      q_is = words_are (size_of class) n11 r t q.q11 is11 long11 (ap length row.q_is ∙ long01) t-is;
-      a_element = element_adjoint (size_of class) q.q01 row.b_element;
-      b_element = element_read (size_of class) n11 q.q11 is11 long11 small11;
-    }
-
-regroup : (x y z : Bool) → (x && (y && z)) ≡ ((x && y) && z)
-regroup true y z = refl
-regroup false y z = refl
+  row_is v0 v1 = rw (p_is, q_is)
 
 within_parts : (m : ℕ) (xs ys : List ℤ) → all_within m (xs ++ ys) ≡ (all_within m xs && all_within m ys)
 within_parts m [] ys = refl
-within_parts m (x ∷ xs) ys = rw (within_parts m xs ys) (regroup (within m x) (all_within m xs) (all_within m ys))
+within_parts m (x ∷ xs) ys = rw (within_parts m xs ys) (sym (and_assoc (within m x) (all_within m xs) (all_within m ys)))
 
 -- u and N by rows
-module _ (q : Gram) (v0 v1 u0 u1 : List ℤ) (u0-is : u0 ≡ row_image q.q00 q.q01 v0 v1) (u1-is : u1 ≡ row_image (adjoint q.q01) q.q11 v0 v1) where
+module _ (q : Gram) (v0 v1 : List ℤ) {u0 u1 : List ℤ} (u0-is : u0 ≡ row_image q.q00 q.q01 v0 v1) (u1-is : u1 ≡ row_image (adjoint q.q01) q.q11 v0 v1) where
   image_is : numbers_of (image_of q (pair v0 v1)) ≡ u0 ++ u1
   unfolding numbers_of image_of applied form_matrix row_image
   image_is = rw (u0-is, u1-is)
@@ -120,7 +86,7 @@ module _ (q : Gram) (v0 v1 u0 u1 : List ℤ) (u0-is : u0 ≡ row_image q.q00 q.q
   length_is = rw (u0-is, u1-is)
 
   -- the two sums as words
-  module _ (n : ℕ) (x y : ℤ) (first : PointWords n v0) (second : PointWords n v1) (x-kept : all_within image_limit u0 ≡ true) (y_kept : all_within image_limit u1 ≡ true)
+  module _ {n : ℕ} {x y : ℤ} (first : PointWords n v0) (second : PointWords n v1) (x-kept : all_within image_limit u0 ≡ true) (y_kept : all_within image_limit u1 ≡ true)
       (x-is : x ≡ dot v0 u0) (y-is : y ≡ dot v1 u1) where
     sum_size : (z : ℤ) (v u : List ℤ) → PointWords n v → all_within image_limit u ≡ true → z ≡ dot v u → nat_abs z ≤ 2 ^ 50
     sum_size z v u point kept is =

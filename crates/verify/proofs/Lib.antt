@@ -3,3 +3,4 @@ pub mod Images
 pub mod Lengths
 pub mod Verdicts
 pub mod Meanings
+pub mod Passes

@@ -1,13 +1,12 @@
 -- v = h − 2s, place by place, and the first nonzero coefficient of v1.
-use Rattle.std.proofs.Common.{◌≡◌, ℕ, ◌+◌, ◌*◌, ◌/◌, ◌%◌, ◌^◌, ◌<◌, ◌≤◌, true, false, List, map, length, get_or, take, drop, ℤ, pos, negsuc, ◌-ℤ◌, ◌*ℤ◌, neg_ℤ, nat_abs, sym, refl, ap, ◌∙◌, mod-lt, arith, lit<, w32, w64, SFits, to_z, of_z}
+use Rattle.std.proofs.Common.{◌≡◌, ℕ, suc, ◌+◌, ◌*◌, ◌/◌, ◌%◌, ◌^◌, ◌<◌, ◌≤◌, Bool, true, false, not, cond, eqb, List, [], ◌∷◌, map, length, get_or, take, drop, ℤ, pos, negsuc, Option, Some, None, MatchOption, unwrap_or, option_map, slice_index_or, ◌-ℤ◌, ◌*ℤ◌, neg_ℤ, nat_abs, sym, refl, ap, ◌∙◌, mod-lt, arith, lit<, w32, w64, SFits, to_z, of_z}
 use lib.Signed.{lt_z}
-use Rattle.std.specs.List.{range_with_len, prefix_len}
+use Rattle.std.specs.List.{range_with_len, prefix_len, find}
 use Rattle.std.proofs.lemmas.List.FromFn.{length-map-range_with_len, get_or-map-range_with_len}
 use Rattle.std.proofs.ByRecursion.{All-get_or, All-from_get_or}
-use Rattle.std.proofs.lemmas.List.{length-map, get_or-map, length-take-le, length-drop, get_or_past, at_drop_all}
+use Rattle.std.proofs.lemmas.List.{length-map, get_or-map, length-take-le, length-drop}
 use Rattle.std.proofs.lemmas.Int.{to_z-of_z}
-use Rattle.std.proofs.lemmas.List.Sums.{prefix_len-drop_yes, prefix_len-drop_no}
-use Rattle.std.proofs.lemmas.Bool.{eq-eqb, ne_eqb}
+use Rattle.std.proofs.lemmas.Bool.{ne_eqb}
 use Rattle.ring.proofs.Places.{length_difference, difference_at}
 use Rattle.ring.proofs.Sizes.{abs_sum, abs_neg, abs_product, fits_word}
 use Rattle.scheme.specs.Hashes.{hash_bit, hash_pair}
@@ -55,31 +54,25 @@ point_is n hash s long =
     let back : length (drop n s) ≡ n = length-drop n s ∙ omega arith in
     rw (front, back)
 
--- what a loop knows at place i: so far all are zero
-module _ (v : List ℤ) (i : ℕ) (inv : i + prefix_len is_zero (drop i v) ≡ prefix_len is_zero v) where
-  pub zeros_more : i < length v → is_zero (get_or v i (pos 0)) ≡ true → (i + 1) + prefix_len is_zero (drop (i + 1) v) ≡ prefix_len is_zero v
-  zeros_more h zero = omega (arith, inv, prefix_len-drop_yes is_zero v i (pos 0) h zero)
+-- the first coefficient that is not 0, as a search finds it
+leader_found : (v : List ℤ) → leader v ≡ unwrap_or (find (λ z. not (is_zero z)) v) (pos 0)
+unfolding leader
+leader_found [] = refl
+leader_found (x ∷ v) =
+    elim (is_zero x) as (λ t. slice_index_or (x ∷ v) (cond t (1 + prefix_len is_zero v) 0) (pos 0) ≡ unwrap_or (cond (not t) (Some x) (find (λ z. not (is_zero z)) v)) (pos 0)) [
+      | true ↦ let next : 1 + prefix_len is_zero v ≡ suc (prefix_len is_zero v) = omega arith in rw next (leader_found v)
+      | false ↦ refl
+    ]
 
-  pub leader_here : i < length v → is_zero (get_or v i (pos 0)) ≡ false → leader v ≡ get_or v i (pos 0)
-  unfolding leader
-  leader_here h other =
-      let at : prefix_len is_zero v ≡ i = omega (arith, inv, prefix_len-drop_no is_zero v i (pos 0) h other) in
-      rw at
-
-  pub leader_none : length v ≤ i → leader v ≡ pos 0
-  unfolding leader
-  leader_none h =
-      let none : prefix_len is_zero (drop i v) ≡ 0 = at_drop_all (prefix_len is_zero) v i h in
-      get_or_past v (prefix_len is_zero v) (pos 0) (omega (arith, inv, none))
+pub leader_positive : {A : Type 0} (value : A → ℤ) (v : List ℤ) (o : Option A) (Positive : A → Type 0) (r : Bool) → option_map value o ≡ find (λ z. not (is_zero z)) v → ((x : A) → Positive x → r ≡ is_positive (value x))
+    → MatchOption o (r ≡ false) Positive → r ≡ is_positive (leader v)
+leader_positive value v None Positive r found read h = h ∙ ap is_positive (ap (λ o. unwrap_or o (pos 0)) found ∙ sym (leader_found v))
+leader_positive value v (Some x) Positive r found read h = read x h ∙ ap is_positive (ap (λ o. unwrap_or o (pos 0)) found ∙ sym (leader_found v))
 
 -- tests on a word
-pub zero_word : (z : ℤ) → SFits w64 z → of_z w64 z ≡ 0 → is_zero z ≡ true
-zero_word (pos n) fits e = eq-eqb n 0 e
-zero_word (negsuc n) fits e = absurd (omega (arith, fits.sfits))
-
-pub other_word : (z : ℤ) → (of_z w64 z ≡ 0 → ⊥) → is_zero z ≡ false
-other_word (pos n) h = ne_eqb n 0 h
-other_word (negsuc n) h = ne_eqb _ 0 (λ e. omega arith)
+pub other_word : (z : ℤ) → SFits w64 z → eqb (of_z w64 z) 0 ≡ is_zero z
+other_word (pos n) fits = refl
+other_word (negsuc n) fits = ne_eqb _ 0 (λ e. omega (arith, fits.sfits)) ∙ sym (ne_eqb (suc n) 0 (λ e. omega arith))
 
 pub positive_is : (z : ℤ) → lt_z (pos 0) z ≡ is_positive z
 positive_is (pos n) = refl

@@ -1,8 +1,7 @@
 -- The tests of verification, put together.
-use Rattle.std.proofs.Common.{◌≡◌, ℕ, ◌-◌, ◌*◌, Bool, true, false, ◌&&◌, eqb, List, length, take, drop, ℤ, pos, Some, None, Ok, Err, Result, sym, ap, ◌∙◌, arith, w64, SFits, to_z, of_z}
-use native.Mathlib.Nat.{sub-zero}
+use Rattle.std.proofs.Common.{◌≡◌, ℕ, ◌≤◌, ◌*◌, true, false, ◌&&◌, eqb, List, length, take, drop, ℤ, pos, Some, None, Ok, Err, Option, Result, MatchOption, ok_or, subst, sym, ap, ◌∙◌, arith, w64, SFits, to_z, of_z}
 use Rattle.std.proofs.ByRecursion.{All-take, All-drop}
-use Rattle.std.proofs.lemmas.List.{length-take-le, length-drop, take_rest}
+use Rattle.std.proofs.lemmas.List.{length-take-le, length-drop}
 use Rattle.std.proofs.lemmas.Int.{to_z-of_z}
 use Rattle.std.proofs.lemmas.Bool.{and_parts, eqb-true}
 use Rattle.ring.specs.Classes.{size_of, bound_of, hash_length_of}
@@ -20,30 +19,38 @@ use Rattle.key.proofs.Sections.{size_room}
 use Rattle.verify.specs.Images.{half_point, PointWords}
 use Rattle.verify.proofs.Points.{length_half, half_small, point_is}
 
+half_words : (n start : ℕ) (hash : List ℕ) (t : List ℤ) → n ≤ 1024 → length t ≡ n → all_within signature_limit t ≡ true → PointWords n (half_point start hash t)
+half_words n start hash t few size small = record { few = few; long = length_half start hash t ∙ size; small = half_small start hash t small }
+
 -- both halves of v, as they are written
-module _ (class : Class) (m : ℕ) (hash : List ℕ) (s v0 v1 : List ℤ) (long : length s ≡ 2 * size_of class) (m-is : m ≡ size_of class)
-    (v0-is : v0 ≡ half_point 0 hash (take (m - 0) s)) (v1-is : v1 ≡ half_point m hash (take (length s - m) (drop m s))) where
-  first_is : v0 ≡ half_point 0 hash (take (size_of class) s)
-  first_is = v0-is ∙ ap (λ k. half_point 0 hash (take k s)) (sub-zero m ∙ m-is)
+pub record Halves (n : ℕ) (hash : List ℕ) (s v0 v1 : List ℤ) : Type 0 where
+  pub point : point_of n hash s ≡ pair v0 v1
+  pub first : all_within signature_limit s ≡ true → PointWords (length v0) v0
+  pub second : all_within signature_limit s ≡ true → PointWords (length v0) v1
 
-  second_is : v1 ≡ half_point (size_of class) hash (drop (size_of class) s)
-  second_is = v1-is ∙ ap (half_point m hash) (take_rest s m) ∙ ap (λ k. half_point k hash (drop k s)) m-is
+pub halves : (class : Class) (m : ℕ) (hash : List ℕ) (s s0 s1 v0 v1 : List ℤ) → length s ≡ 2 * size_of class → m ≡ size_of class → s0 ≡ take m s → s1 ≡ drop m s → v0 ≡ half_point 0 hash s0 → v1 ≡ half_point m hash s1 → Halves (size_of class) hash s v0 v1
+halves class m hash s s0 s1 v0 v1 long m-is s0-is s1-is v0-is v1-is =
+    let n = size_of class in
+    let few = (size_room class).1 in
+    let front : length (take n s) ≡ n = length-take-le n s (omega arith) in
+    let back : length (drop n s) ≡ n = length-drop n s ∙ omega arith in
+    let first : v0 ≡ half_point 0 hash (take n s) = v0-is ∙ ap (half_point 0 hash) s0-is ∙ ap (λ k. half_point 0 hash (take k s)) m-is in
+    let second : v1 ≡ half_point n hash (drop n s) = v1-is ∙ ap (half_point m hash) s1-is ∙ ap (λ k. half_point k hash (drop k s)) m-is in
+    let size : length v0 ≡ n = ap length first ∙ length_half 0 hash (take n s) ∙ front in
+    record {
+      point = rw (first, second) (point_is n hash s long);
+      first = λ small. rw (size, first) (half_words n 0 hash (take n s) few front (bounded_all signature_limit (take n s) (All-take _ n s (bounded_from signature_limit s small))));
+      second = λ small. rw (size, second) (half_words n n hash (drop n s) few back (bounded_all signature_limit (drop n s) (All-drop _ n s (bounded_from signature_limit s small))));
+    }
 
-  pub both_halves : point_of (size_of class) hash s ≡ pair v0 v1
-  both_halves = rw (first_is, second_is) (point_is (size_of class) hash s long)
+-- the outcomes of an `ok_or`
+pub none_of : {A E : Type 0} (o : Option A) (d e : E) (P : Type 0) (Q : A → Type 0) → Err e ≡ ok_or o d → MatchOption o P Q → (e ≡ d) × P
+none_of None d e P Q is h = (cc, h)
+none_of (Some y) d e P Q is h = absurd (cc)
 
-  half_words : (start : ℕ) (t v : List ℤ) → v ≡ half_point start hash t → length t ≡ size_of class → all_within signature_limit t ≡ true → PointWords (size_of class) v
-  half_words start t v is size small = rw is (record { few = (size_room class).1; long = length_half start hash t ∙ size; small = half_small start hash t small })
-
-  pub first_words : all_within signature_limit s ≡ true → PointWords (size_of class) v0
-  first_words small =
-      half_words 0 (take (size_of class) s) v0 first_is (length-take-le (size_of class) s (omega arith))
-      (bounded_all signature_limit (take (size_of class) s) (All-take _ (size_of class) s (bounded_from signature_limit s small)))
-
-  pub second_words : all_within signature_limit s ≡ true → PointWords (size_of class) v1
-  second_words small =
-      half_words (size_of class) (drop (size_of class) s) v1 second_is (length-drop (size_of class) s ∙ omega arith)
-      (bounded_all signature_limit (drop (size_of class) s) (All-drop _ (size_of class) s (bounded_from signature_limit s small)))
+pub some_of : {A E : Type 0} (o : Option A) (d : E) (x : A) (P : Type 0) (Q : A → Type 0) → Ok x ≡ ok_or o d → MatchOption o P Q → Q x
+some_of None d x P Q is h = absurd (cc)
+some_of (Some y) d x P Q is h = let same : y ≡ x = cc in subst Q same h
 
 -- the tests on u and N, and on v1
 module _ (class : Class) (q : Gram) (v : Pair) where
@@ -87,9 +94,6 @@ module _ (class : Class) (q : Gram) (hash : List ℕ) (s : List ℤ) (words : �
 
 -- the test on the lengths
 module _ (class : Class) (hash : List ℕ) (s : List ℤ) (words : ℕ) where
-  pub sizes_read : (k : Class) (t : Bool) → k ≡ class → t ≡ (verify_sizes k hash s words).passes → (verify_sizes class hash s words).passes ≡ t
-  sizes_read k t same e = sym (e ∙ ap (λ c. (verify_sizes c hash s words).passes) same)
-
   pub sizes_are : (verify_sizes class hash s words).passes ≡ true → (length s ≡ 2 * size_of class) × (words ≡ 4 * size_of class)
   sizes_are h =
       let p = and_parts (eqb (length hash) (hash_length_of class) && eqb (length s) (2 * size_of class)) (eqb words (4 * size_of class)) h in

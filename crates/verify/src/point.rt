@@ -1,29 +1,17 @@
-// v = h − 2s: the limit on s, v as words, and the first nonzero coefficient of v1.
+// v = h − 2s: v as words, and the first nonzero coefficient of v1.
 ghost use Rattle.std.specs.Prelude.{◌≡◌, ◌+◌, ◌≤◌, length};
-ghost use Rattle.scheme.specs.Keys.{within, all_within};
 ghost use Rattle.scheme.specs.Pairs.{is_positive, leader};
-ghost use Rattle.scheme.specs.Verdicts.{signature_limit};
-ghost use Rattle.verify.specs.Images.{half_point};
+ghost use Rattle.verify.specs.Images.{half_point, PointWords};
 
 use scheme::hash_bit;
 
-// Whether a number may stand in a signature.
-fn in_range(number: i32) -> bool
-    ensures { result ≡ within signature_limit number }
-{
-    number.unsigned_abs() <= 524_287
-}
-
-// Whether every number may.
-pub(crate) fn all_in_range(numbers: &[i32]) -> bool
-    ensures { result ≡ all_within signature_limit numbers.now }
-{
-    for i in 0..numbers.len() {
-        if !in_range(numbers[i]) {
-            return false;
-        }
-    }
-    true
+// v, half by half, as words.
+#[derive(Clone, Copy)]
+pub(crate) struct Point<'a> {
+    pub(crate) v0: &'a [i64],
+    pub(crate) v1: &'a [i64],
+    ghost first: { PointWords (length v0.now) v0.now },
+    ghost second: { PointWords (length v0.now) v1.now },
 }
 
 // Half of v as words, where the hash's bits for it begin at `start`.
@@ -32,8 +20,9 @@ pub(crate) fn write_point(hash: &[u8], start: usize, numbers: &[i32], words: &mu
     requires few { start + length numbers.now ≤ 2048 }
     ensures { words.new ≡ half_point start hash.now numbers.now }
 {
-    for i in 0..numbers.len() {
-        words[i] = i64::from(hash_bit(hash, start + i)) - 2 * i64::from(numbers[i]);
+    // `words.iter_mut().zip(numbers)` would tell the proof nothing of the words.
+    for (i, number) in numbers.iter().enumerate() {
+        words[i] = i64::from(hash_bit(hash, start + i)) - 2 * i64::from(*number);
     }
 }
 
@@ -41,10 +30,8 @@ pub(crate) fn write_point(hash: &[u8], start: usize, numbers: &[i32], words: &mu
 pub(crate) fn leads_positive(words: &[i64]) -> bool
     ensures { result ≡ is_positive (leader words.now) }
 {
-    for i in 0..words.len() {
-        if words[i] != 0 {
-            return words[i] > 0;
-        }
-    }
-    false
+    words
+        .iter()
+        .find(|word| **word != 0)
+        .is_some_and(|word| *word > 0)
 }

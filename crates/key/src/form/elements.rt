@@ -6,6 +6,7 @@ ghost use Rattle.key.specs.Gramheld.{gram_of};
 use crate::form::Form;
 use crate::memory::used;
 
+// One accessor for an element, as for keys.
 impl Form {
     pub fn q00(&self) -> &[i32]
         ensures value { result.now ≡ (gram_of self.now).q00 }

@@ -1,121 +1,67 @@
 // Loading a form slip.
-ghost use Rattle.std.specs.Prelude.{◌≡◌, ◌*◌, ◌<◌, true, false, [], ◌∷◌, length, replicate, pos, MatchOption, OnErr, slice_index_or};
+ghost use Rattle.std.specs.Prelude.{◌≡◌, ◌*◌, ◌<◌, true, length, replicate, pos, MatchOption, OnErr};
+ghost use Rattle.ring.specs.Calls.{of_class};
 ghost use Rattle.ring.specs.Classes.{size_of};
-ghost use Rattle.ring.specs.Elements.{adjoint};
 ghost use Rattle.ring.specs.Faults.{Answers};
-ghost use Rattle.scheme.specs.Keys.{within, all_within, form_limit};
-ghost use Rattle.slip.specs.Numbers.{numbers32};
+ghost use Rattle.scheme.specs.Keys.{all_within, form_limit};
 ghost use Rattle.slip.specs.declared.kind.Kind.TheVariants.{Form as FormKind};
-ghost use Rattle.slip.specs.Reads.{Read};
-ghost use Rattle.slip.specs.Refusals.{slip_fault};
-ghost use Rattle.std.specs.List.{prefix_len};
-ghost use Rattle.key.specs.FormLoading.{adjoint_tests, first_unlike, form_body_tests, FormLoaded, form_range_test, FormTaken, form_tests};
+ghost use Rattle.key.specs.FormLoading.{adjoint_tests, first_unlike, form_body_tests, FormLoaded, form_tests};
 ghost use Rattle.key.specs.Refusals.{form_fault};
-ghost use Rattle.key.specs.Stored.{padded};
 
 use crate::fault::FormFault;
 use crate::form::Form;
-use crate::memory::{blank, used};
+use crate::memory::used;
 use crate::scratch::Guard;
-use ring::Class;
-use slip::{Kind, Slip, SlipFault, read32};
+use crate::section::taken;
+use crate::star::star;
+use slip::{Kind, Slip};
 
-// The numbers of a section in fixed memory.
-fn stored(bytes: &[u8], class: Class) -> [i32; 1024]
-    requires { length bytes.now ≡ 4 * size_of class }
-    ensures { result ≡ padded (numbers32 bytes.now) }
-{
-    let mut memory = blank(0);
-    let _ = read32(bytes, &mut memory[0..class.size()]);
-    memory
-}
+// The largest number of a form, in size.
+const FORM_LIMIT: u32 = 33_554_431;
 
-// Whether a number may stand in a form.
-fn in_range(number: i32) -> bool
-    ensures { result ≡ within form_limit number }
-{
-    number.unsigned_abs() <= 33_554_431
-}
-
-// The index of the first number that is out of range.
-fn first_large(numbers: &[i32]) -> Option<usize>
-    ensures { MatchOption result (all_within form_limit numbers.now ≡ true) (λ i. (all_within form_limit numbers.now ≡ false) × (i ≡ prefix_len (within form_limit) numbers.now) × (i < length numbers.now)) }
-{
-    for i in 0..numbers.len() {
-        if !in_range(numbers[i]) {
-            return Some(i);
-        }
-    }
-    None
-}
-
-// Coefficient i of the adjoint of an element.
-fn adjoint_at(numbers: &[i32], i: usize) -> i32
+// The first power at which an element differs from its adjoint; `words` holds both meanwhile.
+fn first_unlike(numbers: &[i32], words: &mut [i64]) -> Option<usize>
+    requires class { of_class (length numbers.now) ≡ true }
     requires small { all_within form_limit numbers.now ≡ true }
-    requires within { i < length numbers.now }
-    ensures { result ≡ slice_index_or (adjoint numbers.now) i (pos 0) }
-{
-    if i == 0 {
-        numbers[0]
-    } else {
-        -numbers[numbers.len() - i]
-    }
-}
-
-// The first power at which an element differs from its adjoint.
-fn first_unlike(numbers: &[i32]) -> Option<usize>
-    requires { all_within form_limit numbers.now ≡ true }
+    requires long { length words.old ≡ 4 * length numbers.now }
     ensures { MatchOption result (first_unlike numbers.now ≡ length numbers.now) (λ k. (k ≡ first_unlike numbers.now) × (k < length numbers.now)) }
 {
-    for i in 0..numbers.len() {
-        if numbers[i] != adjoint_at(numbers, i) {
-            return Some(i);
-        }
-    }
-    None
-}
-
-// Section i of a slip in fixed memory. `file` is what the slip was read from.
-fn taken(file: &[u8], slip: &Slip<'_>, i: usize) -> Result<[i32; 1024], SlipFault>
-    requires read { Read FormKind file.now slip.now }
-    requires there { i < 3 }
-    ensures { Answers slip_fault (form_range_test file.now i ∷ []) (λ m. FormTaken file.now i m) result }
-{
-    let part = slip.section(i).unwrap();
-    let memory = stored(part.bytes, slip.class());
-    match first_large(used(&memory, slip.class())) {
-        Some(k) => Err(SlipFault::Range(part.place + 4 * k)),
-        None => Ok(memory),
-    }
+    let n = numbers.len();
+    let (element, rest) = words.split_at_mut(n);
+    let (mirror, _) = rest.split_at_mut(n);
+    star(numbers, element, mirror);
+    element.iter().zip(mirror.iter()).position(|(x, y)| x != y)
 }
 
 // Whether q00 and q11 are their own adjoints.
-fn selfadjoint(q00: &[i32], q11: &[i32]) -> Result<(), FormFault>
+fn selfadjoint(q00: &[i32], q11: &[i32], words: &mut [i64]) -> Result<(), FormFault>
+    requires class { of_class (length q00.now) ≡ true }
     requires small_q00 { all_within form_limit q00.now ≡ true }
     requires small_q11 { all_within form_limit q11.now ≡ true }
-    requires long { length q00.now < 1025 }
     requires same { length q11.now ≡ length q00.now }
+    requires long { length words.old ≡ 4 * length q00.now }
     ensures { Answers form_fault (adjoint_tests q00.now q11.now) (λ _. Unit {0}) result }
 {
-    if let Some(power) = first_unlike(q00) {
+    if let Some(power) = first_unlike(q00, words) {
         return Err(FormFault::Adjoint(power));
     }
-    match first_unlike(q11) {
+    match first_unlike(q11, words) {
         Some(power) => Err(FormFault::Adjoint(q00.len() + power)),
         None => Ok(()),
     }
 }
 
-// The form that a slip holds. `file` is what the slip was read from.
-fn decoded(file: &[u8], slip: &Slip<'_>) -> Result<Form, FormFault>
-    requires { Read FormKind file.now slip.now }
-    ensures { Answers form_fault (form_body_tests file.now) (λ form. FormLoaded file.now form) result }
+// The form that a slip holds.
+fn decoded(slip: &Slip<'_>, words: &mut [i64]) -> Result<Form, FormFault>
+    requires kind { slip.now.kind ≡ FormKind }
+    requires long { length words.old ≡ 4 * size_of slip.now.class }
+    ensures { Answers form_fault (form_body_tests slip.now.file.now) (λ form. FormLoaded slip.now.file.now form) result }
 {
     let class = slip.class();
-    let q00 = taken(file, slip, 0)?;
-    let q01 = taken(file, slip, 1)?;
-    let q11 = taken(file, slip, 2)?;
-    selfadjoint(used(&q00, class), used(&q11, class))?;
+    let q00 = taken(slip, 0, FORM_LIMIT)?;
+    let q01 = taken(slip, 1, FORM_LIMIT)?;
+    let q11 = taken(slip, 2, FORM_LIMIT)?;
+    selfadjoint(used(&q00, class), used(&q11, class), words)?;
     Ok(Form {
         class,
         q00,
@@ -124,6 +70,7 @@ fn decoded(file: &[u8], slip: &Slip<'_>) -> Result<Form, FormFault>
     })
 }
 
+// `Key::load` is alike; one load for both would have to be told how to decode.
 impl Form {
     // Replaces the form by that of a slip, or refuses and leaves it.
     pub fn load(&mut self, file: &[u8], scratch: &mut [i64]) -> Result<(), FormFault>
@@ -136,7 +83,7 @@ impl Form {
         if guard.words.len() != 4 * slip.class().size() {
             return Err(FormFault::Scratch);
         }
-        let form = decoded(file, &slip)?;
+        let form = decoded(&slip, guard.words)?;
         *self = form;
         Ok(())
     }

@@ -1,63 +1,52 @@
 // Making the form of a key.
-ghost use Rattle.std.specs.Prelude.{◌≡◌, ◌*◌, true, [], ◌∷◌, map, length, replicate, pos, OnErr};
+ghost use Rattle.std.specs.Prelude.{◌≡◌, ◌*◌, ◌≤◌, true, [], ◌∷◌, length, replicate, pos, ◌+ℤ◌, OnErr};
 ghost use Rattle.ring.specs.Calls.{of_class};
 ghost use Rattle.ring.specs.Classes.{size_of};
-ghost use Rattle.ring.specs.Elements.{adjoint as adjoint_of};
+ghost use Rattle.ring.specs.Elements.{adjoint, coefficient};
 ghost use Rattle.ring.specs.Faults.{Answers};
-ghost use Rattle.ring.specs.Kinds.{word_value};
+ghost use Rattle.scheme.specs.Keys.{all_within, key_limit};
 ghost use Rattle.key.specs.Loading.{scratch_test};
-ghost use Rattle.key.specs.Making.{starred, FourElements, Made, Known};
+ghost use Rattle.key.specs.Making.{starred, Made, Known};
 ghost use Rattle.key.specs.Refusals.{key_fault};
-ghost use Rattle.key.specs.Stored.{padded};
+ghost use Rattle.key.specs.Stored.{padded, room_of};
 
 use crate::fault::KeyFault;
 use crate::form::Form;
 use crate::key::Key;
-use crate::memory::blank;
+use crate::product::Product;
 use crate::scratch::Guard;
-use ring::{adjoint, coefficient};
+use std::array::from_fn;
 
-// The numbers of an element, as words.
-fn widen(numbers: &[i8], words: &mut [i64])
-    requires { length words.old ≡ length numbers.now }
-    ensures { words.new ≡ numbers.now }
-{
-    for i in 0..numbers.len() {
-        words[i] = i64::from(numbers[i]);
-    }
+// A column of a key's basis: (f, g) or (F, G).
+#[derive(Clone, Copy)]
+struct Column<'a> {
+    top: &'a [i8],
+    bottom: &'a [i8],
+    ghost class: { of_class (length top.now) ≡ true },
+    ghost few: { length top.now ≤ room_of },
+    ghost long: { length bottom.now ≡ length top.now },
+    ghost small_top: { all_within key_limit top.now ≡ true },
+    ghost small_bottom: { all_within key_limit bottom.now ≡ true },
 }
 
-// The adjoint of an element, as words; `area` holds the element meanwhile.
-fn star(numbers: &[i8], area: &mut [i64], out: &mut [i64])
-    requires class { of_class (length numbers.now) ≡ true }
-    requires area { length area.old ≡ length numbers.now }
-    requires out { length out.old ≡ length numbers.now }
-    ensures { map word_value out.new ≡ map word_value (adjoint_of numbers.now) }
+// Coefficient k of the sum of two products.
+fn sum_at(top: &Product<'_, '_>, bottom: &Product<'_, '_>, k: usize) -> i32
+    ensures { result ≡ coefficient (adjoint top.now.a.now) top.now.b.now k +ℤ coefficient (adjoint bottom.now.a.now) bottom.now.b.now k }
 {
-    widen(numbers, area);
-    let _ = adjoint(area, out);
+    (top.at(k) + bottom.at(k)) as i32
 }
 
-// a*·b + c*·d in fixed memory, for elements of a key.
-fn row(a: &[i8], b: &[i8], c: &[i8], d: &[i8], words: &mut [i64]) -> [i32; 1024]
-    requires elements { FourElements a.now b.now c.now d.now }
-    requires long { length words.old ≡ 4 * length a.now }
-    ensures { result ≡ padded (starred a.now b.now c.now d.now) }
+// left*·right, the sum of both products, in fixed memory.
+fn entry<'a>(left: Column<'a>, right: Column<'a>, words: &mut [i64]) -> [i32; 1024]
+    requires same { length right.top.now ≡ length left.top.now }
+    requires long { length words.old ≡ 4 * length left.top.now }
+    ensures { result ≡ padded (starred left.entry.top.now right.entry.top.now left.entry.bottom.now right.entry.bottom.now) }
 {
-    let n = a.len();
-    let (a_star, rest) = words.split_at_mut(n);
-    let (b_words, rest) = rest.split_at_mut(n);
-    let (c_star, d_words) = rest.split_at_mut(n);
-    star(a, b_words, a_star);
-    widen(b, b_words);
-    star(c, d_words, c_star);
-    widen(d, d_words);
-    let mut numbers = blank(0);
-    for k in 0..n {
-        let entry = coefficient(a_star, b_words, k) + coefficient(c_star, d_words, k);
-        numbers[k] = entry as i32;
-    }
-    numbers
+    let n = left.top.len();
+    let (top_words, bottom_words) = words.split_at_mut(2 * n);
+    let top = Product::new(left.top, right.top, top_words);
+    let bottom = Product::new(left.bottom, right.bottom, bottom_words);
+    from_fn(|k| if k < n { sum_at(&top, &bottom, k) } else { 0 })
 }
 
 // The form of a key.
@@ -66,13 +55,17 @@ fn formed(key: &Key, words: &mut [i64]) -> Form
     ensures made { Made key.now result }
     ensures known { Known key.now }
 {
-    let f = key.f();
-    let g = key.g();
-    let cap_f = key.cap_f();
-    let cap_g = key.cap_g();
-    let q00 = row(f, f, g, g, words);
-    let q01 = row(f, cap_f, g, cap_g, words);
-    let q11 = row(cap_f, cap_f, cap_g, cap_g, words);
+    let first = Column {
+        top: key.f(),
+        bottom: key.g(),
+    };
+    let second = Column {
+        top: key.cap_f(),
+        bottom: key.cap_g(),
+    };
+    let q00 = entry(first, first, words);
+    let q01 = entry(first, second, words);
+    let q11 = entry(second, second, words);
     Form {
         class: key.class,
         q00,

@@ -9,7 +9,7 @@ ghost use Rattle.key.specs.Writing.{form_slip, ReadsAsForm};
 
 use crate::form::Form;
 use crate::memory::used;
-use slip::{Kind, SlipFault, write_trailer, write32};
+use slip::{Kind, SlipFault, write_numbers, write_trailer};
 
 impl Form {
     // Writes the form as a slip over the whole area. The slip loads as this form.
@@ -22,9 +22,10 @@ impl Form {
         if area.len() != 3 * part + 8 {
             return Err(SlipFault::AreaLength);
         }
-        let _ = write32(used(&self.q00, self.class), area, 0);
-        let _ = write32(used(&self.q01, self.class), area, part);
-        let _ = write32(used(&self.q11, self.class), area, 2 * part);
+        // The area has room for each section, so no write is refused; a loop over three slices is no plainer.
+        let _ = write_numbers(used(&self.q00, self.class), area, 0);
+        let _ = write_numbers(used(&self.q01, self.class), area, part);
+        let _ = write_numbers(used(&self.q11, self.class), area, 2 * part);
         let _ = write_trailer(Kind::Form, self.class, area);
         Ok(())
     }

@@ -6,6 +6,7 @@ ghost use Rattle.key.specs.Held.{basis_of};
 use crate::key::Key;
 use crate::memory::used;
 
+// One accessor for an element: a macro or an index would be no plainer than four lines.
 impl Key {
     pub fn f(&self) -> &[i8]
         ensures value { result.now ≡ (basis_of self.now).f }

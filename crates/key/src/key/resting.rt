@@ -6,8 +6,8 @@ ghost use Rattle.key.specs.Loading.{Holds};
 ghost use Rattle.key.specs.Resting.{resting_basis};
 
 use crate::key::Key;
-use crate::memory::{blank, constant};
-use ring::Class;
+use crate::memory::constant;
+use ring::{Class, filled};
 
 impl Key {
     pub fn resting() -> Key
@@ -19,7 +19,7 @@ impl Key {
             class: Class::One,
             f: constant(0, 1),
             g: constant(0, 1),
-            cap_f: blank(0),
+            cap_f: filled(0),
             cap_g: constant(0, 1),
         }
     }

@@ -8,7 +8,7 @@ ghost use Rattle.key.specs.Held.{basis_of};
 ghost use Rattle.key.specs.Writing.{key_slip, ReadsAsKey};
 
 use crate::key::Key;
-use slip::{Kind, SlipFault, write_trailer, write8};
+use slip::{Kind, SlipFault, write_numbers, write_trailer};
 
 impl Key {
     // Writes the key as a slip over the whole area. The slip loads as this key.
@@ -21,10 +21,11 @@ impl Key {
         if area.len() != 4 * n + 8 {
             return Err(SlipFault::AreaLength);
         }
-        let _ = write8(self.f(), area, 0);
-        let _ = write8(self.g(), area, n);
-        let _ = write8(self.cap_f(), area, 2 * n);
-        let _ = write8(self.cap_g(), area, 3 * n);
+        // The area has room for each section, so no write is refused; a loop over four slices is no plainer.
+        let _ = write_numbers(self.f(), area, 0);
+        let _ = write_numbers(self.g(), area, n);
+        let _ = write_numbers(self.cap_f(), area, 2 * n);
+        let _ = write_numbers(self.cap_g(), area, 3 * n);
         let _ = write_trailer(Kind::Key, self.class, area);
         Ok(())
     }

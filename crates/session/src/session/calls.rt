@@ -1,4 +1,5 @@
-// The calls of a session. Each does what `step` of the scheme says: its answer, its area and the state after it.
+// The calls of a session. Each does what `step` of the scheme says: its answer, its area and the state after it. That
+// key and log stay is a relation of before and after, which no type says: each call says it.
 ghost use Rattle.std.specs.Prelude.{◌≡◌, [], length, replicate, pos, IfErr};
 ghost use Rattle.scheme.specs.Sessions.{announce as announce_call, target as target_call, sign as sign_call, withdraw as withdraw_call, count as count_call};
 ghost use Rattle.session.specs.Answers.{announced, counts, ended, gives, issued as issued_answer, targeted};
@@ -20,7 +21,7 @@ impl Session<'_, '_> {
     {
         let reply = self.transition(Ask::Announce(hash), &mut [], &mut [], &mut [])?;
         let Reply::Ordered(number) = reply else {
-            unreachable()
+            unreachable!()
         };
         Ok(Order { number })
     }
@@ -43,7 +44,8 @@ impl Session<'_, '_> {
     }
 
     // Signs the standing order's hash with a sample: writes the signature, appends the hash to the log and ends
-    // the order. Answers the squared length of the sample, and whether the sign changed.
+    // the order. Answers the squared length of the sample, and whether the sign changed: the
+    // product fixes this pair.
     pub fn sign(
         &mut self,
         order: Order,
@@ -60,9 +62,9 @@ impl Session<'_, '_> {
         let guard = Guard { words: scratch };
         match self.transition(Ask::Sign(&order, sample), &mut [], area, guard.words) {
             Ok(reply) => {
-                let Order { number: _ } = order;
+                order.end();
                 let Reply::Signed(length, changed) = reply else {
-                    unreachable()
+                    unreachable!()
                 };
                 Ok((length, changed))
             }
@@ -79,7 +81,7 @@ impl Session<'_, '_> {
     {
         match self.transition(Ask::Withdraw(&order), &mut [], &mut [], &mut []) {
             Ok(_) => {
-                let Order { number: _ } = order;
+                order.end();
                 Ok(())
             }
             Err(fault) => Err(Returned { fault, order }),
@@ -90,14 +92,10 @@ impl Session<'_, '_> {
     pub fn count(&self) -> Count
         ensures { gives (counts result) [] [] (state_of self.now) ≡ step_of self.now count_call }
     {
-        let standing = match self.status {
-            Status::Idle => false,
-            Status::Standing => true,
-        };
         Count {
             issued: self.issued as u32,
             capacity: self.capacity as u32,
-            standing,
+            standing: self.status == Status::Standing,
         }
     }
 }

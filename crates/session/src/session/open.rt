@@ -1,5 +1,5 @@
 // Opening a session.
-ghost use Rattle.std.specs.Prelude.{◌≡◌, replicate};
+ghost use Rattle.std.specs.Prelude.{◌≡◌};
 ghost use Rattle.key.specs.Held.{basis_of};
 ghost use Rattle.runs.specs.Sealed.{Sealed};
 ghost use Rattle.scheme.specs.Sessions.{opened};
@@ -8,13 +8,7 @@ ghost use Rattle.session.specs.Held.{state_of};
 use crate::session::Session;
 use crate::status::Status;
 use key::Key;
-
-// Memory for the longest hash.
-fn blank() -> [u8; 256]
-    ensures { result ≡ replicate 256 0 }
-{
-    [0; 256]
-}
+use ring::filled;
 
 impl<'k, 'l> Session<'k, 'l> {
     // Opens a session on a key and a log. Nothing is written. `sealed` is what holds of every run of it: issued
@@ -32,7 +26,7 @@ impl<'k, 'l> Session<'k, 'l> {
             capacity,
             issued: 0,
             status: Status::Idle,
-            hash: blank(),
+            hash: filled(0),
         }
     }
 }

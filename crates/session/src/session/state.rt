@@ -2,7 +2,7 @@
 ghost use Rattle.std.specs.Prelude.{◌≡◌, ◌<◌, length, take, Some};
 ghost use Rattle.ring.specs.Classes.{hash_length_of};
 ghost use Rattle.scheme.specs.Steps.{appended, listed, number_in, with_order};
-ghost use Rattle.session.specs.Held.{state_of};
+ghost use Rattle.session.specs.Held.{SameLoans, state_of};
 ghost use Rattle.session.specs.declared.status.Status.TheVariants.{Standing as StandingStatus};
 
 use crate::log::{holds, write_entry};
@@ -11,6 +11,7 @@ use crate::status::Status;
 
 impl Session<'_, '_> {
     // The number of the order that stands, or of the next one.
+    #[tactic(auto, using(crate::proofs::Entries::length_chunks))]
     pub(crate) fn number(&self) -> u32
         ensures { result ≡ number_in (state_of self.now) }
     {
@@ -29,7 +30,7 @@ impl Session<'_, '_> {
         ensures value { result.now ≡ take (hash_length_of self.now.key.now.class) self.now.hash }
         ensures len { length result.now ≡ hash_length_of self.now.key.now.class }
     {
-        &self.hash[0..self.key.class().hash_length()]
+        &self.hash[..self.key.class().hash_length()]
     }
 
     // Keeps a hash as that of the standing order.
@@ -37,9 +38,9 @@ impl Session<'_, '_> {
         requires free { self.old.issued < self.old.capacity }
         requires long { length hash.now ≡ hash_length_of self.old.key.now.class }
         ensures state { state_of self.new ≡ with_order (state_of self.old) (Some hash.now) }
-        ensures key { self.new.key.now ≡ self.old.key.now }
-        ensures lender { self.new.log.ghost_name ≡ self.old.log.ghost_name }
+        ensures loans { SameLoans self.old self.new }
     {
+        // `..` in place of `0..` gets no proof here: the field lies beside a lent log.
         self.hash[0..hash.len()].copy_from_slice(hash);
         self.status = Status::Standing;
     }
@@ -48,13 +49,12 @@ impl Session<'_, '_> {
     pub(crate) fn append(&mut self)
         requires { self.old.status ≡ StandingStatus }
         ensures state { state_of self.new ≡ appended self.old.key.now.class (state_of self.old) }
-        ensures key { self.new.key.now ≡ self.old.key.now }
-        ensures lender { self.new.log.ghost_name ≡ self.old.log.ghost_name }
+        ensures loans { SameLoans self.old self.new }
     {
         let size = self.key.class().hash_length();
         let place = self.issued * size;
         let Session { log, hash, .. } = self;
-        write_entry(log, place, &hash[0..size]);
+        write_entry(log, place, &hash[..size]);
         self.status = Status::Idle;
         self.issued += 1;
     }

@@ -6,7 +6,7 @@ ghost use Rattle.scheme.specs.Sessions.{announce as announce_call};
 ghost use Rattle.scheme.specs.Steps.{order_test, signature_given, target_given};
 ghost use Rattle.session.specs.Answers.{answer_of, gives};
 ghost use Rattle.session.specs.Asks.{call_of, fitting};
-ghost use Rattle.session.specs.Held.{state_of, step_of};
+ghost use Rattle.session.specs.Held.{SameLoans, state_of, step_of};
 ghost use Rattle.session.specs.declared.status.Status.TheVariants.{Idle as IdleStatus, Standing as StandingStatus};
 
 use crate::ask::{Ask, Reply};
@@ -49,8 +49,7 @@ impl Session<'_, '_> {
         requires idle { self.old.status ≡ IdleStatus }
         requires long { fitting self.old.key.now.class (announce_call hash.now) ≡ true }
         ensures step { gives (answer_of result) [] [] (state_of self.new) ≡ step_of self.old (announce_call hash.now) }
-        ensures key { self.new.key.now ≡ self.old.key.now }
-        ensures lender { self.new.log.ghost_name ≡ self.old.log.ghost_name }
+        ensures loans { SameLoans self.old self.new }
     {
         if self.issued >= self.capacity {
             return Err(SessionFault::Full);
@@ -72,8 +71,7 @@ impl Session<'_, '_> {
         requires target { target.old ≡ target_given (call_of ask target.old signature.old (length scratch.old)) }
         requires signature { signature.old ≡ signature_given (call_of ask target.old signature.old (length scratch.old)) }
         ensures step { gives (answer_of result) target.new signature.new (state_of self.new) ≡ step_of self.old (call_of ask.entry target.old signature.old (length scratch.old)) }
-        ensures key { self.new.key.now ≡ self.old.key.now }
-        ensures lender { self.new.log.ghost_name ≡ self.old.log.ghost_name }
+        ensures loans { SameLoans self.old self.new }
     {
         if !self.suits(ask, target, signature, scratch) {
             return Err(SessionFault::Length);

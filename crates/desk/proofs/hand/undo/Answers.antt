@@ -8,12 +8,7 @@ unreachable-requires c =
     let key = c.args.session.now.key.now in
     withdraw_not_refused key.class (basis_of key) (state_of c.args.session.now) c.args.order.number c.requires _ _ _ _ c.in-Err.ensures.step
 
-pub returns : goal.returns
-returns c =
+pub returns-clause-state : goal.returns-clause-state
+returns-clause-state c =
     let key = c.args.session.now.key.now in
-    let e = c.in-Ok.ensures in
-    record {
-      state = withdrawn_state key.class (basis_of key) (state_of c.args.session.now) c.args.order.number c.requires _ _ _ _ e.step;
-      key = e.key;
-      lender = e.lender;
-    }
+    withdrawn_state key.class (basis_of key) (state_of c.args.session.now) c.args.order.number c.requires _ _ _ _ c.in-Ok.ensures.step

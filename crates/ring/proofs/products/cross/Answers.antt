@@ -1,15 +1,14 @@
-use Rattle.std.proofs.Common.{arith}
-use Rattle.ring.proofs.Sums.{cross_none, cross_more, cross_all}
+use Rattle.std.proofs.Common.{◌∙◌, arith}
+use Rattle.ring.proofs.Sums.{cross_step, cross_end}
 use Rattle.ring.proofs.products.cross.Goals as goal
 
-pub loop-i-init : goal.loop-i-init
-loop-i-init g c = cross_none _ _ (omega (arith, g.met.K.Coefficient.several)) c.nought-sum.ensures
-
-pub loop-i-preserved : goal.loop-i-preserved
-loop-i-preserved g c =
-    cross_more g.K.Coefficient.modulus g.K.Coefficient.residue c.args.a.now c.args.b.now c.loop-i.i c.index-a-i.result c.index-b-b.result _ _ _
-    (omega (arith, g.met.K.Coefficient.several)) (omega arith) (omega arith) c.index-a-i.is c.index-b-b.is
-    c.loop-i.invariant c.times.ensures c.plus-sum.ensures
+pub loop-x-preserved : goal.loop-x-preserved
+loop-x-preserved g c =
+    let steps = c.in-Some.ensures.steps in
+    cross_step g.K.Coefficient.modulus g.K.Coefficient.residue c.in-Some.x.now c.in-Some.y.now _ _ _ _ _ _ _
+    (omega (arith, g.met.K.Coefficient.several)) (g.met.K.Coefficient.below c.loop-x.sum) steps.0 steps.1 c.times.ensures c.plus-sum.ensures
+    ∙ c.loop-x.invariant
 
 pub returns : goal.returns
-returns g c = cross_all g.K.Coefficient.modulus g.K.Coefficient.residue c.args.a.now c.args.b.now c.loop-i.i _ (omega arith) c.loop-i.invariant
+returns g c = cross_end g.K.Coefficient.modulus g.K.Coefficient.residue c.args.a.now c.args.b.now _ _ _
+    (g.met.K.Coefficient.below c.loop-x.sum) (λ h. h.1.0) (λ h. h.1.0) c.in-None.ensures.steps c.loop-x.invariant

@@ -1,9 +1,11 @@
-use Rattle.std.proofs.Common.{◌≡◌, reverse, take}
-use Rattle.ring.specs.Elements.{dot}
+use Rattle.std.proofs.Common.{◌≡◌, pos, ◌+ℤ◌}
+use Rattle.ring.specs.Elements.{crossed}
 use Rattle.ring.specs.Kinds.{rest, values}
 use Rattle.ring.proofs.products.cross.Given as goal
 
-abbrev pub invariant-loop-i : goal.invariant-loop-i
-invariant-loop-i g l =
+-- What was summed, with the pairs that are left, is the whole sum.
+abbrev pub invariant-loop-x : goal.invariant-loop-x
+invariant-loop-x g l =
     let k = g.K.Coefficient in
-    k.residue l.sum ≡ rest k.modulus (dot (take l.i (values k.residue l.a)) (take l.i (reverse (values k.residue l.b))))
+    rest k.modulus (pos (k.residue l.sum) +ℤ crossed (values k.residue l.x-iterator.a.rest.now) (values k.residue l.x-iterator.b.iter.rest.now))
+    ≡ rest k.modulus (crossed (values k.residue l.a) (values k.residue l.b))

@@ -1,22 +1,20 @@
-use Rattle.std.proofs.Common.{vec_items, arith, w16, SFits}
-use Rattle.std.proofs.lemmas.Int.{to_z-of_z}
+use Rattle.std.proofs.Common.{◌≡◌, ◌/◌, length, map, vec_items, Ok, rules, arith}
 use Rattle.std.proofs.lemmas.Bool.Decides.{nat_tests}
+use Rattle.std.proofs.lemmas.Iterator.{items_from_collect, YieldsList-from_slice, YieldsList-from_map}
+use Rattle.std.proofs.lemmas.Int.{to_z-of_z}
+use Rattle.std.specs.Simd.{first_chunks}
 use Rattle.script.specs.Operands.{number16, sample_in}
-use Rattle.script.proofs.Steps.{twos_more, twos_all}
+use Rattle.script.proofs.Pairs.{both, pairs_twos}
 use Rattle.script.proofs.operand.sample.Goals as goal
 
-pub returns-then-bytes-ne0 : goal.returns-then-bytes-ne0
+pub returns-then-not-is_empty : goal.returns-then-not-is_empty
 unfolding sample_in
-returns-then-bytes-ne0 c = grind (arith, nat_tests)
-
-pub loop-i-preserved : goal.loop-i-preserved
-loop-i-preserved c =
-    let fits : SFits w16 c.from_be_bytes.result = record { sfits = c.from_be_bytes.type_inv } in
-    rw (c.in_ok-push.ensures.items, to_z-of_z w16 c.from_be_bytes.result fits, c.from_be_bytes.ensures)
-    (twos_more number16 c.args.bytes.now c.loop-i.i (vec_items c.loop-i.numbers) c.loop-i.invariant (omega arith))
+returns-then-not-is_empty c = grind (arith, nat_tests)
 
 pub returns : goal.returns
 unfolding sample_in
 returns c =
-    let e = twos_all number16 c.args.bytes.now c.loop-i.i (vec_items c.loop-i.numbers) c.loop-i.invariant c.loop-i-test.false in
-    rw (e, c.if-bytes-ne0.false)
+    let bytes = c.args.bytes.now in
+    let read : vec_items c.in_ok-numbers.numbers ≡ map (both number16) (first_chunks 2 (length bytes / 2) bytes) =
+    items_from_collect {E = Unit {0}} (Ok c.in_ok-numbers.numbers) c.in_ok-numbers.ensures.ran (YieldsList-from_map _ (both number16) (YieldsList-from_slice (first_chunks 2 (length bytes / 2) bytes) cc) c.map.ensures.closure (λ x r q k. search (rules, to_z-of_z))) in
+    rw (read, pairs_twos number16 bytes) (grind (arith, nat_tests))

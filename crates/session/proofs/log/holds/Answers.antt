@@ -1,38 +1,14 @@
-use Rattle.std.proofs.Common.{◌≡◌, ℕ, ◌+◌, ◌-◌, ◌*◌, List, take, drop, Decides, sym, refl, ap, ◌∙◌, arith}
-use Rattle.std.proofs.lemmas.Slice.Eq.{slice_eq-Decides, bytes_eq-Decides}
-use Rattle.std.proofs.lemmas.Bool.{or_from}
-use Rattle.std.proofs.lemmas.Bool.Decides.{same_from_decides, Decides-eqb}
-use Rattle.std.specs.Str.{bytes_eq}
-use Rattle.scheme.specs.Steps.{listed}
-use Rattle.session.specs.Logs.{chunk, chunks}
-use Rattle.session.proofs.Entries.{listed_more, listed_at, place_within}
+use Rattle.std.proofs.Common.{ap, ◌∙◌, rules, tests}
+use Rattle.std.specs.Slice.Iter.{chunks_exact_size, chunks_exact_rest}
+use Rattle.session.proofs.Runs.{found}
 use Rattle.session.proofs.log.holds.Goals as goal
 
-pub loop-k-init : goal.loop-k-init
-unfolding listed chunks
-loop-k-init c = refl
-
-pub slice_bounds-eq-end : goal.slice_bounds-eq-end
-slice_bounds-eq-end c = omega (arith, place_within c.args.size c.loop-k.k c.args.count c.loop-k-test.true)
-
--- the part that the code compares is entry k
-part_is : (size k : ℕ) (log : List ℕ) → take (k * size + size - k * size) (drop (k * size) log) ≡ chunk size k log
-part_is size k log = let e : k * size + size - k * size ≡ size = omega arith in ap (λ n. take n (drop (k * size) log)) e
-
-compared : (size k : ℕ) (log hash : List ℕ) (r : _) → Decides r (take (k * size + size - k * size) (drop (k * size) log) ≡ hash)
-    → r ≡ bytes_eq (chunk size k log) hash
-compared size k log hash r d =
-    let same = same_from_decides r (bytes_eq (take (k * size + size - k * size) (drop (k * size) log)) hash) d
-    (bytes_eq-Decides (take (k * size + size - k * size) (drop (k * size) log)) hash) in
-    same ∙ ap (λ part. bytes_eq part hash) (part_is size k log)
-
-pub returns-then-eq : goal.returns-then-eq
-returns-then-eq c =
-    let d = compared c.args.size c.loop-k.k c.args.log.now c.args.hash.now c.eq.result (slice_eq-Decides Decides-eqb _ _ _ c.eq.ensures) in
-    sym (listed_at c.args.size c.loop-k.k c.args.count c.args.log.now c.args.hash.now c.loop-k-test.true (sym d ∙ c.if-eq.true))
-
-pub loop-k-preserved : goal.loop-k-preserved
-loop-k-preserved c =
-    let d = compared c.args.size c.loop-k.k c.args.log.now c.args.hash.now c.eq.result (slice_eq-Decides Decides-eqb _ _ _ c.eq.ensures) in
-    listed_more c.args.size c.loop-k.k c.args.log.now c.args.hash.now
-    ∙ or_from _ _ c.loop-k.invariant (sym d ∙ c.if-eq.false)
+pub returns : goal.returns
+returns c =
+    let any = c.any.ensures.runs in
+    let p = any.0 in
+    let take = c.take.ensures.runs p p.seen any.1 in
+    let q = take.1.0 in
+    let made = c.chunks_exact.ensures in
+    found _ _ c.args.size c.args.count c.args.log.now c.args.hash (λ x b k. search (rules, tests)) p q c.requires.size c.requires.room take.0 take.1.2.0 take.1.2.1
+    (ap chunks_exact_size take.1.1 ∙ made.size) (ap chunks_exact_rest take.1.1 ∙ made.rest) (made.runs q q.seen) (λ a r f k. search (rules, tests)) c.any.result any.2

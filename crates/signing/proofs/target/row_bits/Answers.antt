@@ -1,23 +1,29 @@
-use Rattle.std.proofs.Common.{◌≡◌, ◌-◌, map, length, take, ◌∙◌, arith, subst}
-use native.Mathlib.Nat.{sub-zero}
-use Rattle.std.specs.List.{range_with_len}
-use Rattle.std.proofs.lemmas.List.{length-take-le}
-use Rattle.scheme.specs.Hashes.{hash_bit}
-use Rattle.signing.specs.Rows.{BitsOf}
-use Rattle.signing.proofs.Joins.{row_is}
+use Rattle.std.proofs.Common.{map, pos, sym, ◌∙◌, arith}
+use Rattle.std.proofs.lemmas.List.{get_or-map, length-map}
+use Rattle.ring.specs.Kinds.{rest, values, bit_value}
+use Rattle.signing.specs.Rows.{joined}
+use Rattle.signing.proofs.Copies.{read_more, read_all}
+use Rattle.signing.proofs.Joins.{length_joined, joined_bit}
 use Rattle.signing.proofs.target.row_bits.Goals as goal
+
+pub loop-k-preserved : goal.loop-k-preserved
+loop-k-preserved c =
+    let a = c.args.a.now in
+    let b = c.args.b.now in
+    let x = c.args.x.now in
+    let y = c.args.y.now in
+    let row = joined a b (values bit_value x) (values bit_value y) in
+    let size = length_joined a b (values bit_value x) (values bit_value y) (omega arith) in
+    let long = length-map row (rest 2) in
+    read_more bit_value c.loop-k.bits (map (rest 2) row) c.loop-k.k _ 0 (omega arith) (omega arith)
+    (joined_bit a b c.element_bits.new.bits c.element_bits-2.new.bits x y c.loop-k.k _ _ _ (omega arith) (omega arith) c.element_bits.ensures c.element_bits-2.ensures c.plus.ensures c.coefficient.ensures c.coefficient-in-loop-k.ensures
+    ∙ sym (get_or-map (rest 2) row c.loop-k.k (pos 0) 0 (omega arith))) c.loop-k.invariant
 
 pub returns : goal.returns
 returns c =
-    let hash = c.args.hash.now in
-    let n = length c.args.bits.now in
-    let x = c.blank-x_memory.result in
-    let y = c.blank-y_memory.result in
-    let x_long : length (take (n - 0) x) ≡ n = length-take-le (n - 0) x (omega (arith, c.blank-x_memory.ensures)) ∙ sub-zero n in
-    let y_long : length (take (n - 0) y) ≡ n = length-take-le (n - 0) y (omega (arith, c.blank-y_memory.ensures)) ∙ sub-zero n in
-    row_is c.args.a.now c.args.b.now (map (hash_bit hash) (range_with_len 0 n)) (map (hash_bit hash) (range_with_len n n))
-    c.element_bits.new.bits c.element_bits-2.new.bits c.hash_bits.new.bits c.hash_bits-2.new.bits c.join.new.bits
-    (omega arith) c.element_bits.ensures c.element_bits-2.ensures
-    (subst (λ m. BitsOf c.hash_bits.new.bits (map (hash_bit hash) (range_with_len 0 m))) x_long c.hash_bits.ensures)
-    (subst (λ m. BitsOf c.hash_bits-2.new.bits (map (hash_bit hash) (range_with_len n m))) y_long c.hash_bits-2.ensures)
-    c.join.ensures
+    let a = c.args.a.now in
+    let b = c.args.b.now in
+    let row = joined a b (values bit_value c.args.x.now) (values bit_value c.args.y.now) in
+    let size = length_joined a b (values bit_value c.args.x.now) (values bit_value c.args.y.now) (omega arith) in
+    let long = length-map row (rest 2) in
+    read_all bit_value c.loop-k.bits (map (rest 2) row) c.loop-k.k (omega arith) (omega arith) c.loop-k.invariant

@@ -2,7 +2,7 @@ use Rattle.std.proofs.Common.{◌≡◌, Bool, true, false, cond, map, get_or, s
 use mir.Val.{bool_byte}
 use Rattle.std.proofs.lemmas.List.{get_or-map, length-map}
 use Rattle.ring.specs.Kinds.{bit_value}
-use Rattle.signing.proofs.Copies.{copied_more, copied_all}
+use Rattle.signing.proofs.Copies.{copied_more}
 use Rattle.signing.proofs.target.write_bytes.Goals as goal
 
 byte_is : (b : Bool) → bool_byte b ≡ cond b 1 0
@@ -15,10 +15,4 @@ loop-i-preserved c =
     let i = c.loop-i.i in
     let long = length-map bits bit_value in
     copied_more c.loop-i.area (map bit_value bits) i _ 0 (omega arith) (omega arith)
-    (c.from.ensures ∙ byte_is (get_or bits i (record { 0 = false })).0 ∙ sym (get_or-map bit_value bits i (record { 0 = false }) 0 c.loop-i-test.true)) c.loop-i.invariant
-
-pub returns : goal.returns
-returns c =
-    let bits = c.args.bits.now in
-    let long = length-map bits bit_value in
-    copied_all c.loop-i.area (map bit_value bits) c.loop-i.i (omega arith) (omega arith) c.loop-i.invariant
+    (c.from.ensures ∙ byte_is (get_or bits i (record { 0 = false })).0 ∙ sym (get_or-map bit_value bits i (record { 0 = false }) 0 (omega arith))) c.loop-i.invariant

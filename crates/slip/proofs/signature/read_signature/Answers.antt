@@ -1,5 +1,4 @@
 use Rattle.std.proofs.Common.{◌≡◌, ◌*◌, length, refl, ◌∙◌, arith, rules}
-use Rattle.std.proofs.lemmas.List.{places}
 use Rattle.std.proofs.lemmas.Result.{err_from_is_err_and}
 use Rattle.std.proofs.lemmas.Bool.Decides.{nat_tests}
 use Rattle.slip.specs.declared.kind.Kind.TheVariants.{Signature}
@@ -7,7 +6,6 @@ use Rattle.slip.specs.Refusals.{slip_fault}
 use Rattle.slip.specs.Signatures.{read_tests, signature_numbers}
 use Rattle.slip.specs.Numbers.{numbers32}
 use Rattle.slip.specs.Slips.{slip_tests, size_named, section_bytes}
-use Rattle.slip.proofs.Areas.{both_halves}
 use Rattle.slip.specs.Writes.{same_tests}
 use Rattle.ring.proofs.Firsts.{first_after, first_before}
 use Rattle.slip.proofs.signature.read_signature.Goals as goal
@@ -29,20 +27,11 @@ returns-then-numbers-n c =
     let e = first_after (slip_tests Signature c.args.file.now) (same_tests (length c.args.numbers.now) (2 * size_named c.args.file.now)) h.0 in
     record { answer = e ∙ grind (arith, nat_tests); kept = refl }
 
-pub get32-requires : goal.get32-requires
-get32-requires c = search (rules, places)
-
-pub get32-requires-2 : goal.get32-requires-2
-get32-requires-2 c = search (rules, places)
-
 pub returns : goal.returns
 unfolding read_tests signature_numbers
 returns c =
     let h = c.in_ok-slip.ensures in
     let e = first_after (slip_tests Signature c.args.file.now) (same_tests (length c.args.numbers.now) (2 * size_named c.args.file.now)) h.0 in
-    let a : c.get32.new.numbers ≡ numbers32 (section_bytes Signature (size_named c.args.file.now) c.args.file.now 0) = search rules in
-    let b : c.get32-2.new.numbers ≡ numbers32 (section_bytes Signature (size_named c.args.file.now) c.args.file.now 1) = search rules in
-    let l : length c.get32.new.numbers ≡ c.size-n.result = search (rules, places) in
-    let m : length c.get32-2.new.numbers ≡ c.size-n.result = search (rules, places) in
-    let v = both_halves c.size-n.result c.args.numbers.now c.get32.new.numbers c.get32-2.new.numbers (omega arith) l m in
+    let a : c.get_numbers.new.numbers ≡ numbers32 (section_bytes Signature (size_named c.args.file.now) c.args.file.now 0) = search rules in
+    let b : c.get_numbers-2.new.numbers ≡ numbers32 (section_bytes Signature (size_named c.args.file.now) c.args.file.now 1) = search rules in
     record { answer = (e ∙ grind (arith, nat_tests), (search rules, cc)); kept = tt }

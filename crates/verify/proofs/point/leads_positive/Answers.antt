@@ -1,24 +1,21 @@
-use Rattle.std.proofs.Common.{get_or, pos, sym, ap, ◌∙◌, w64, SFits, rules}
+use Rattle.std.proofs.Common.{◌≡◌, pos, not, eqb, ap, ◌∙◌, w64, to_z, of_z, SFits, rules, tests}
 use lib.Signed.{lt_z}
+use Rattle.std.proofs.lemmas.Iterator.{YieldsList-from_slice}
+use Rattle.std.proofs.lemmas.Iterator.Search.{find_from_yields_List}
 use Rattle.std.proofs.lemmas.Int.{to_z-of_z}
-use Rattle.scheme.specs.Pairs.{is_positive}
-use Rattle.verify.proofs.Points.{zeros_more, leader_here, leader_none, zero_word, other_word, positive_is}
+use Rattle.scheme.specs.Pairs.{is_zero}
+use Rattle.verify.proofs.Points.{leader_positive, other_word, positive_is}
 use Rattle.verify.proofs.point.leads_positive.Goals as goal
 
-pub returns-then-words-i-ne0 : goal.returns-then-words-i-ne0
-returns-then-words-i-ne0 c =
-    let v = c.args.words.now in
-    let z = get_or v c.loop-i.i (pos 0) in
-    let fits : SFits w64 (get_or v c.loop-i.i (pos 0)) = search rules in
-    ap (lt_z (pos 0)) (to_z-of_z w64 z fits)
-    ∙ positive_is z
-    ∙ sym (ap is_positive (leader_here v c.loop-i.i c.loop-i.invariant c.loop-i-test.true (other_word z c.if-words-i-ne0.true)))
-
-pub loop-i-preserved : goal.loop-i-preserved
-loop-i-preserved c =
-    let v = c.args.words.now in
-    let fits : SFits w64 (get_or v c.loop-i.i (pos 0)) = search rules in
-    zeros_more v c.loop-i.i c.loop-i.invariant c.loop-i-test.true (zero_word (get_or v c.loop-i.i (pos 0)) fits c.if-words-i-ne0.false)
-
 pub returns : goal.returns
-returns c = sym (ap is_positive (leader_none c.args.words.now c.loop-i.i c.loop-i.invariant c.loop-i-test.false))
+returns c =
+    let found = find_from_yields_List (λ z. not (is_zero z)) _ _ c.find.result c.find.ensures.ran (YieldsList-from_slice c.args.words.now cc)
+    (λ x b q k.
+    let fits : SFits w64 x.now = search rules in
+    let read : b ≡ not (eqb (of_z w64 x.now) 0) = search (rules, tests) in
+    (search rules, read ∙ ap not (other_word x.now fits))) in
+    leader_positive (λ x. x.now) c.args.words.now c.find.result _ c.is_some_and.result found
+    (λ x k.
+    let fits : SFits w64 x.now = search rules in
+    let read : c.is_some_and.result ≡ lt_z (pos 0) (to_z w64 (of_z w64 x.now)) = search rules in
+    read ∙ ap (lt_z (pos 0)) (to_z-of_z w64 x.now fits) ∙ positive_is x.now) c.is_some_and.ensures

@@ -1,5 +1,5 @@
 use Rattle.std.proofs.Common.{◌+◌, get_or, pos, sym, ◌∙◌, arith, w32, SFits, rules}
-use Rattle.key.proofs.Bytes.{copied_more, copied_all}
+use Rattle.verify.proofs.Passes.{copied_more, copied_all}
 use Rattle.verify.specs.Images.{half_point}
 use Rattle.verify.proofs.Points.{length_half, half_at, word_is}
 use Rattle.verify.proofs.point.write_point.Goals as goal

@@ -1,62 +1,86 @@
-use Rattle.std.proofs.Common.{Some, sym, ap, ◌∙◌, arith, lit<}
-use Rattle.scheme.specs.Keys.{all_within, form_limit}
-use Rattle.key.specs.FormLoading.{gram_in}
+use Rattle.std.proofs.Common.{◌≡◌, Some, sym, refl, ap, ◌∙◌}
 use Rattle.std.proofs.lemmas.Result.{err_from_is_err_and}
-use Rattle.key.proofs.FormBody.{form_stops_0, form_stops_1, form_stops_2, after_form_ranges, adjoint_parts, same_adjoints, held_is}
-use Rattle.key.proofs.Sections.{size_room}
+use Rattle.ring.specs.Classes.{size_of}
+use Rattle.ring.specs.Faults.{first_failing}
+use Rattle.scheme.specs.Keys.{all_within, form_limit}
+use Rattle.key.specs.FormLoading.{adjoint_tests, form_body_tests, form_numbers_in, gram_in}
+use Rattle.key.specs.Stored.{front}
+use Rattle.key.proofs.FormBody.{form_stops_0, form_stops_1, form_stops_2, after_form_ranges, adjoint_parts, same_adjoints}
+use Rattle.key.proofs.KeyTests.{form_element, form_test}
+use Rattle.key.proofs.Taking.{front_element, Element}
 use Rattle.key.proofs.form.load.decoded.Goals as goal
+use Rattle.key.proofs.form.load.decoded.Goals.{After-used-2}
+
+-- the three sections, taken
+module _ (c : After-used-2) where
+  q00_in : Element form_limit (size_of c.args.slip.now.class) (form_numbers_in c.args.slip.now.file.now 0) c.in_ok-q00.q00
+  q00_in = form_element c.args.slip.now c.requires.kind 0 c.in_ok-q00.q00 c.in_ok-q00.ensures
+
+  q01_in : Element form_limit (size_of c.args.slip.now.class) (form_numbers_in c.args.slip.now.file.now 1) c.in_ok-q01.q01
+  q01_in = form_element c.args.slip.now c.requires.kind 1 c.in_ok-q01.q01 c.in_ok-q01.ensures
+
+  q11_in : Element form_limit (size_of c.args.slip.now.class) (form_numbers_in c.args.slip.now.file.now 2) c.in_ok-q11.q11
+  q11_in = form_element c.args.slip.now c.requires.kind 2 c.in_ok-q11.q11 c.in_ok-q11.ensures
+
+  q00_is : front c.class-class.result c.in_ok-q00.q00 ≡ form_numbers_in c.args.slip.now.file.now 0
+  q00_is = front_element (form_numbers_in c.args.slip.now.file.now 0) c.in_ok-q00.q00 c.class-class.result (ap size_of c.class-class.ensures) q00_in
+
+  q01_is : front c.class-class.result c.in_ok-q01.q01 ≡ form_numbers_in c.args.slip.now.file.now 1
+  q01_is = front_element (form_numbers_in c.args.slip.now.file.now 1) c.in_ok-q01.q01 c.class-class.result (ap size_of c.class-class.ensures) q01_in
+
+  q11_is : front c.class-class.result c.in_ok-q11.q11 ≡ form_numbers_in c.args.slip.now.file.now 2
+  q11_is = front_element (form_numbers_in c.args.slip.now.file.now 2) c.in_ok-q11.q11 c.class-class.result (ap size_of c.class-class.ensures) q11_in
+
+  ranges : first_failing (form_body_tests c.args.slip.now.file.now) ≡ first_failing (adjoint_tests c.used.result.now c.used-2.result.now)
+  ranges =
+      after_form_ranges c.args.slip.now.file.now c.in_ok-q00.q00 c.in_ok-q01.q01 c.in_ok-q11.q11 q00_in q01_in q11_in
+      ∙ same_adjoints c.used.result.now c.used-2.result.now _ _ (c.used.ensures.value ∙ q00_is) (c.used-2.ensures.value ∙ q11_is)
 
 pub returns-in_err-q00 : goal.returns-in_err-q00
 returns-in_err-q00 c =
+    let s = c.args.slip.now in
     let p = err_from_is_err_and c.from_residual.result c.from_residual.ensures.1 in
-    rw (p.1, p.2) (form_stops_0 c.args.file.now _ c.in_err-q00.ensures)
+    rw (p.1, p.2) (form_stops_0 s.file.now _ (sym (form_test s c.requires.kind 0) ∙ c.in_err-q00.ensures))
 
 pub returns-in_err-q01 : goal.returns-in_err-q01
 returns-in_err-q01 c =
+    let s = c.args.slip.now in
+    let q00 = form_element s c.requires.kind 0 c.in_ok-q00.q00 c.in_ok-q00.ensures in
     let p = err_from_is_err_and c.from_residual-in_err-q01.result c.from_residual-in_err-q01.ensures.1 in
-    rw (p.1, p.2) (form_stops_1 c.args.file.now _ _ c.in_ok-q00.ensures.1 c.in_err-q01.ensures)
+    rw (p.1, p.2) (form_stops_1 s.file.now _ _ q00 (sym (form_test s c.requires.kind 1) ∙ c.in_err-q01.ensures))
 
 pub returns-in_err-q11 : goal.returns-in_err-q11
 returns-in_err-q11 c =
+    let s = c.args.slip.now in
+    let q00 = form_element s c.requires.kind 0 c.in_ok-q00.q00 c.in_ok-q00.ensures in
+    let q01 = form_element s c.requires.kind 1 c.in_ok-q01.q01 c.in_ok-q01.ensures in
     let p = err_from_is_err_and c.from_residual-in_err-q11.result c.from_residual-in_err-q11.ensures.1 in
-    rw (p.1, p.2) (form_stops_2 c.args.file.now _ _ _ c.in_ok-q00.ensures.1 c.in_ok-q01.ensures.1 c.in_err-q11.ensures)
+    rw (p.1, p.2) (form_stops_2 s.file.now _ _ _ q00 q01 (sym (form_test s c.requires.kind 2) ∙ c.in_err-q11.ensures))
 
-pub selfadjoint-requires : goal.selfadjoint-requires
-selfadjoint-requires c =
-    let t0 = c.in_ok-q00.ensures.1 in
-    let t2 = c.in_ok-q11.ensures.1 in
-    let e0 = held_is c.args.file.now c.args.slip.now c.requires 0 c.class-class.result _ (lit< tt) c.class-class.ensures t0 in
-    let e2 = held_is c.args.file.now c.args.slip.now c.requires 2 c.class-class.result _ (lit< tt) c.class-class.ensures t2 in
-    record {
-      small_q00 = ap (all_within form_limit) (c.used.ensures.value ∙ e0) ∙ t0.in_range;
-      small_q11 = ap (all_within form_limit) (c.used-2.ensures.value ∙ e2) ∙ t2.in_range;
-      long = omega (arith, c.used.ensures.len, size_room c.class-class.result);
-      same = c.used-2.ensures.len ∙ sym c.used.ensures.len;
-    }
+pub selfadjoint-requires-clause-small_q00 : goal.selfadjoint-requires-clause-small_q00
+selfadjoint-requires-clause-small_q00 c =
+    let at = (goal.at.selfadjoint-requires-clause-small_q00 c).After-used-2 in
+    ap (all_within form_limit) (c.used.ensures.value ∙ q00_is at) ∙ (q00_in at).small
+
+pub selfadjoint-requires-clause-small_q11 : goal.selfadjoint-requires-clause-small_q11
+selfadjoint-requires-clause-small_q11 c =
+    let at = (goal.at.selfadjoint-requires-clause-small_q11 c).After-used-2 in
+    ap (all_within form_limit) (c.used-2.ensures.value ∙ q11_is at) ∙ (q11_in at).small
 
 pub returns-in_err-selfadjoint : goal.returns-in_err-selfadjoint
 returns-in_err-selfadjoint c =
-    let t0 = c.in_ok-q00.ensures.1 in
-    let t1 = c.in_ok-q01.ensures.1 in
-    let t2 = c.in_ok-q11.ensures.1 in
-    let e0 = c.used.ensures.value ∙ held_is c.args.file.now c.args.slip.now c.requires 0 c.class-class.result _ (lit< tt) c.class-class.ensures t0 in
-    let e2 = c.used-2.ensures.value ∙ held_is c.args.file.now c.args.slip.now c.requires 2 c.class-class.result _ (lit< tt) c.class-class.ensures t2 in
+    let at = (goal.at.returns-in_err-selfadjoint c).After-used-2 in
     let p = err_from_is_err_and c.from_residual-in_err-selfadjoint.result c.from_residual-in_err-selfadjoint.ensures.1 in
-    rw (p.1, p.2) (after_form_ranges c.args.file.now _ _ _ t0 t1 t2 ∙ same_adjoints c.used.result.now c.used-2.result.now _ _ e0 e2 ∙ c.in_err-selfadjoint.ensures)
+    rw (p.1, p.2) (ranges at ∙ c.in_err-selfadjoint.ensures)
 
 pub invariant_of-result : goal.invariant_of-result
 invariant_of-result c =
-    let t0 = c.in_ok-q00.ensures.1 in
-    let t1 = c.in_ok-q01.ensures.1 in
-    let t2 = c.in_ok-q11.ensures.1 in
-    let e0 = held_is c.args.file.now c.args.slip.now c.requires 0 c.class-class.result _ (lit< tt) c.class-class.ensures t0 in
-    let e1 = held_is c.args.file.now c.args.slip.now c.requires 1 c.class-class.result _ (lit< tt) c.class-class.ensures t1 in
-    let e2 = held_is c.args.file.now c.args.slip.now c.requires 2 c.class-class.result _ (lit< tt) c.class-class.ensures t2 in
+    let at = (goal.at.invariant_of-result c).After-used-2 in
     let parts = adjoint_parts c.used.result.now c.used-2.result.now c.in_ok-selfadjoint.ensures.0 in
     record {
-      small_q00 = ap (all_within form_limit) e0 ∙ t0.in_range;
-      small_q01 = ap (all_within form_limit) e1 ∙ t1.in_range;
-      small_q11 = ap (all_within form_limit) e2 ∙ t2.in_range;
+      small_q00 = ap (all_within form_limit) (q00_is at) ∙ (q00_in at).small;
+      small_q01 = ap (all_within form_limit) (q01_is at) ∙ (q01_in at).small;
+      small_q11 = ap (all_within form_limit) (q11_is at) ∙ (q11_in at).small;
       selfadjoint_q00 = rw c.used.ensures.value at parts.0;
       selfadjoint_q11 = rw c.used-2.ensures.value at parts.1;
     }
@@ -64,18 +88,16 @@ invariant_of-result c =
 pub returns : goal.returns
 unfolding gram_in
 returns c =
-    let t0 = c.in_ok-q00.ensures.1 in
-    let t1 = c.in_ok-q01.ensures.1 in
-    let t2 = c.in_ok-q11.ensures.1 in
-    let e0 = held_is c.args.file.now c.args.slip.now c.requires 0 c.class-class.result _ (lit< tt) c.class-class.ensures t0 in
-    let e1 = held_is c.args.file.now c.args.slip.now c.requires 1 c.class-class.result _ (lit< tt) c.class-class.ensures t1 in
-    let e2 = held_is c.args.file.now c.args.slip.now c.requires 2 c.class-class.result _ (lit< tt) c.class-class.ensures t2 in (
-      after_form_ranges c.args.file.now _ _ _ t0 t1 t2 ∙ same_adjoints c.used.result.now c.used-2.result.now _ _ (c.used.ensures.value ∙ e0) (c.used-2.ensures.value ∙ e2) ∙ c.in_ok-selfadjoint.ensures.0,
+    let at = (goal.at.returns c).After-used-2 in
+    let q00 = q00_is at in
+    let q01 = q01_is at in
+    let q11 = q11_is at in (
+      ranges at ∙ c.in_ok-selfadjoint.ensures.0,
       record {
-        class = c.requires.named ∙ ap Some (sym c.class-class.ensures);
-        gram_is = rw (e0, e1, e2);
-        q00_is = t0.memory_is;
-        q01_is = t1.memory_is;
-        q11_is = t2.memory_is;
+        class = c.args.slip.now.named ∙ ap Some (sym c.class-class.ensures);
+        gram_is = rw (q00, q01, q11) refl;
+        q00_is = (q00_in at).memory_is;
+        q01_is = (q01_in at).memory_is;
+        q11_is = (q11_in at).memory_is;
       },
     )

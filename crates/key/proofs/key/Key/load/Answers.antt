@@ -1,10 +1,11 @@
-use Rattle.std.proofs.Common.{◌*◌, ◌∷◌, length, sym, refl, ap, ◌∙◌, rules}
+use Rattle.std.proofs.Common.{◌*◌, ◌∷◌, length, sym, refl, ap, subst, ◌∙◌, rules}
 use Rattle.std.proofs.lemmas.Result.{err_from_is_err_and}
 use Rattle.ring.specs.Classes.{size_of}
+use Rattle.ring.specs.Faults.{first_failing}
 use Rattle.ring.proofs.Firsts.{first_before}
 use Rattle.slip.specs.Slips.{slip_tests, size_named}
 use Rattle.slip.specs.declared.kind.Kind.TheVariants.{Key}
-use Rattle.key.specs.Loading.{key_tests, body_tests, scratch_test}
+use Rattle.key.specs.Loading.{key_tests, body_tests, Loaded, scratch_test}
 use Rattle.key.specs.Refusals.{key_fault}
 use Rattle.key.specs.declared.fault.KeyFault.TheVariants.{Scratch}
 use Rattle.key.proofs.Body.{scratch_fails, after_scratch}
@@ -39,7 +40,7 @@ returns-in_err-key c =
     let n = c.size.ensures ∙ ap size_of c.class.ensures ∙ sym c.in_ok-slip.ensures.1.size in
     let p = err_from_is_err_and c.from_residual-in_err-key.result c.from_residual-in_err-key.ensures.1 in
     record {
-      answer = rw (p.1, p.2) (after_scratch (slip_tests Key file) (body_tests file) (key_fault Scratch) (length c.args.scratch.now) (size_named file) c.in_ok-slip.ensures.0 (c.if-guard-size.false ∙ ap (λ k. 4 * k) n) ∙ c.in_err-key.ensures);
+      answer = rw (p.1, p.2) (after_scratch (slip_tests Key file) (body_tests file) (key_fault Scratch) (length c.args.scratch.now) (size_named file) c.in_ok-slip.ensures.0 (c.if-guard-size.false ∙ ap (λ k. 4 * k) n) ∙ sym (ap (λ xs. first_failing (body_tests xs)) c.in_ok-slip.ensures.1.bytes) ∙ c.in_err-key.ensures);
       kept = rw p.1 refl;
       wiped = search rules;
     }
@@ -50,7 +51,7 @@ returns c =
     let file = c.args.file.now in
     let n = c.size.ensures ∙ ap size_of c.class.ensures ∙ sym c.in_ok-slip.ensures.1.size in
     record {
-      answer = (after_scratch (slip_tests Key file) (body_tests file) (key_fault Scratch) (length c.args.scratch.now) (size_named file) c.in_ok-slip.ensures.0 (c.if-guard-size.false ∙ ap (λ k. 4 * k) n) ∙ c.in_ok-key.ensures.0, c.in_ok-key.ensures.1);
+      answer = (after_scratch (slip_tests Key file) (body_tests file) (key_fault Scratch) (length c.args.scratch.now) (size_named file) c.in_ok-slip.ensures.0 (c.if-guard-size.false ∙ ap (λ k. 4 * k) n) ∙ sym (ap (λ xs. first_failing (body_tests xs)) c.in_ok-slip.ensures.1.bytes) ∙ c.in_ok-key.ensures.0, subst (λ xs. Loaded xs c.in_ok-key.key) c.in_ok-slip.ensures.1.bytes c.in_ok-key.ensures.1);
       kept = tt;
       wiped = search rules;
     }

@@ -18,7 +18,7 @@ unfolding resting_basis
 invariant_of-result c =
     let f = is_one c.constant.result c.constant.ensures in
     let g = is_one c.constant-2.result c.constant-2.ensures in
-    let F = is_zero c.blank.result c.blank.ensures in
+    let F = is_zero c.filled.result c.filled.ensures in
     let G = is_one c.constant-3.result c.constant-3.ensures in
     record {
       small_f = ap (all_within key_limit) f ∙ one_small;
@@ -35,7 +35,7 @@ unfolding resting_basis
 returns c =
     let f = is_one c.constant.result c.constant.ensures in
     let g = is_one c.constant-2.result c.constant-2.ensures in
-    let F = is_zero c.blank.result c.blank.ensures in
+    let F = is_zero c.filled.result c.filled.ensures in
     let G = is_one c.constant-3.result c.constant-3.ensures in
     record {
       class = refl;
@@ -44,7 +44,7 @@ returns c =
         class_is = refl;
         f_is = c.constant.ensures ∙ padded_constant (pos 1);
         g_is = c.constant-2.ensures ∙ padded_constant (pos 1);
-        F_is = c.blank.ensures ∙ padded_blank;
+        F_is = c.filled.ensures ∙ padded_blank;
         G_is = c.constant-3.ensures ∙ padded_constant (pos 1);
       };
     }

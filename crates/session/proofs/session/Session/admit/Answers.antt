@@ -6,21 +6,21 @@ use Rattle.session.proofs.Outcomes.{announce_full, announce_logged, announce_pas
 use Rattle.session.proofs.Transitions.{class_in, basis_in, same_step, none_stands, full, room_left, listing, refusing, working}
 use Rattle.session.proofs.session.Session.admit.Goals as goal
 
-pub returns-then-self : goal.returns-then-self
-returns-then-self c =
+pub returns-then-self-clause-step : goal.returns-then-self-clause-step
+returns-then-self-clause-step c =
     let s = c.args.self.now in
     let e = announce_full (class_in s) (basis_in s) (state_of s) _ c.requires.long (none_stands s c.requires.idle) (full s c.if-self.true) in
-    record { step = refusing s refl refl refl e; key = refl; lender = refl }
+    refusing s refl refl refl e
 
-pub returns-then-lists : goal.returns-then-lists
-returns-then-lists c =
+pub returns-then-lists-clause-step : goal.returns-then-lists-clause-step
+returns-then-lists-clause-step c =
     let s = c.args.self.now in
     let e = announce_logged (class_in s) (basis_in s) (state_of s) _ c.requires.long (none_stands s c.requires.idle) (room_left s c.if-self.false) (listing s _ c.lists.ensures c.if-lists.true) in
-    record { step = refusing s refl refl refl e; key = refl; lender = refl }
+    refusing s refl refl refl e
 
-pub returns : goal.returns
+pub returns-clause-step : goal.returns-clause-step
 unfolding work
-returns c =
+returns-clause-step c =
     let s = c.args.self.now in
     let e = announce_passes (class_in s) (basis_in s) (state_of s) _ c.requires.long (none_stands s c.requires.idle) (room_left s c.if-self.false) (listing s _ c.lists.ensures c.if-lists.false) in
-    record { step = working s refl e (same_step (ap (λ k. ordered k) (c.number.ensures ∙ ap number_in c.keep.ensures.state)) refl refl c.keep.ensures.state); key = c.keep.ensures.key; lender = c.keep.ensures.lender }
+    working s refl e (same_step (ap (λ k. ordered k) (c.number.ensures ∙ ap number_in c.keep.ensures.state)) refl refl c.keep.ensures.state)

@@ -1,4 +1,4 @@
-use Rattle.std.proofs.Common.{◌≡◌, ℕ, ◌+◌, ◌-◌, ◌≤◌, List, [], ◌∷◌, ◌++◌, length, take, drop, sym, refl, ap, ◌∙◌, arith, rules}
+use Rattle.std.proofs.Common.{◌≡◌, ◌+◌, ◌≤◌, [], ◌∷◌, ◌++◌, length, take, sym, refl, ap, ◌∙◌, rules}
 use Rattle.ring.specs.Classes.{hash_length_of}
 use Rattle.session.specs.Logs.{chunks}
 use Rattle.session.specs.Statuses.{orders}
@@ -8,19 +8,12 @@ use Rattle.session.proofs.States.{same_state}
 use Rattle.session.proofs.Transitions.{class_in, kept_in, kept_stands, kept_length}
 use Rattle.session.proofs.session.Session.append.Goals as goal
 
-front_is : {size : ℕ} (n : ℕ) (hash : List ℕ) → n ≡ size → take (n - 0) (drop 0 hash) ≡ take size hash
-front_is n hash e = let z : n - 0 ≡ n = omega arith in ap (λ k. take k hash) (z ∙ e)
-
-pub returns : goal.returns
-returns c =
+pub returns-clause-state : goal.returns-clause-state
+returns-clause-state c =
     let s = c.args.self.now in
+    let right = c.hash_length-size.ensures ∙ ap hash_length_of c.class.ensures.class in
     let l : length s.hash ≡ 256 = search rules in
     let free : s.issued + 1 ≤ s.capacity = rw (ap (λ (t : Status). s.issued + orders t) c.requires) at s.free in
-    let a = appended_log (hash_length_of (class_in s)) s.issued c.hash_length-size.result (kept_in s) _ s.log.now c.write_entry.new.log
-    (c.hash_length-size.ensures ∙ ap hash_length_of c.class.ensures.class) (front_is c.hash_length-size.result s.hash (c.hash_length-size.ensures ∙ ap hash_length_of c.class.ensures.class)) (kept_length s l) c.write_entry.ensures
+    let a = appended_log (hash_length_of (class_in s)) s.issued c.hash_length-size.result (kept_in s) _ s.log.now c.write_entry.new.log right (ap (λ n. take n s.hash) right) (kept_length s l) c.write_entry.ensures
     (room_there (class_in s) (length s.log.now) s.issued s.capacity s.room free) in
-    record {
-      state = same_state (a.0 ∙ ap (λ xs. chunks (hash_length_of (class_in s)) s.issued s.log.now ++ (xs ∷ [])) (sym (kept_stands s c.requires))) refl refl a.1;
-      key = refl;
-      lender = refl;
-    }
+    same_state (a.0 ∙ ap (λ xs. chunks (hash_length_of (class_in s)) s.issued s.log.now ++ (xs ∷ [])) (sym (kept_stands s c.requires))) refl refl a.1

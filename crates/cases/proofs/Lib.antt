@@ -1,0 +1,11 @@
+pub mod Folding
+pub mod Cuts
+pub mod Giving
+pub mod Chunks
+pub mod Settling
+pub mod Places
+pub mod Residues
+pub mod Words
+pub mod Turning
+pub mod Holds
+pub mod Others

@@ -1,0 +1,10 @@
+pub mod Stops
+pub mod Operands
+pub mod Texts
+pub mod Lines
+pub mod Packed
+pub mod Slips
+pub mod Rings
+pub mod Places
+pub mod Holding
+pub mod Outcomes

@@ -1,5 +1,0 @@
-use Rattle.key.proofs.Adjoints.{Alike}
-use Rattle.key.proofs.form.load.first_unlike.Given as goal
-
-abbrev pub invariant-loop-i : goal.invariant-loop-i
-invariant-loop-i l = Alike l.numbers l.i

@@ -1,7 +1,0 @@
-use Rattle.std.proofs.Common.{◌≡◌, ◌-◌, ◌++◌, take, replicate, pos}
-use Rattle.key.specs.Making.{starred}
-use Rattle.key.specs.Stored.{room_of}
-use Rattle.key.proofs.form.make.row.Given as goal
-
-abbrev pub invariant-loop-k : goal.invariant-loop-k
-invariant-loop-k l = l.numbers ≡ take l.k (starred l.a l.b l.c l.d) ++ replicate (room_of - l.k) (pos 0)

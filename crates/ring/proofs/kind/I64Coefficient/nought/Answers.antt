@@ -1,7 +1,0 @@
-use Rattle.std.proofs.Common.{refl}
-use Rattle.ring.specs.Kinds.{rest}
-use Rattle.ring.proofs.kind.I64Coefficient.nought.Goals as goal
-
-pub returns : goal.returns
-unfolding rest
-returns c = refl

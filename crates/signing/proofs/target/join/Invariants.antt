@@ -1,7 +1,0 @@
-use Rattle.std.proofs.Common.{◌≡◌, map, take}
-use Rattle.ring.specs.Kinds.{rest, values, bit_value}
-use Rattle.signing.specs.Rows.{joined}
-use Rattle.signing.proofs.target.join.Given as goal
-
-abbrev pub invariant-loop-k : goal.invariant-loop-k
-invariant-loop-k l = map bit_value (take l.k l.bits) ≡ take l.k (map (rest 2) (joined (values bit_value l.a) (values bit_value l.b) (values bit_value l.x) (values bit_value l.y)))

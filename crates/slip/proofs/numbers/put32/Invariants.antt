@@ -1,9 +1,0 @@
-use Rattle.std.proofs.Common.{◌≡◌, take, w32, SFits}
-use Rattle.std.specs.List.{AllByRecursion}
-use Rattle.slip.specs.Numbers.{bytes32}
-use Rattle.slip.specs.Writes.{written}
-use Rattle.slip.proofs.numbers.put32.Given as goal
-
-abbrev pub invariant-loop-i : goal.invariant-loop-i
-invariant-loop-i l =
-    (l.area ≡ written l.place (bytes32 (take l.i l.numbers)) l.initial.area) × AllByRecursion (SFits w32) (take l.i l.numbers)
