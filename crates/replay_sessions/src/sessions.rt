@@ -118,6 +118,7 @@ struct Player<'k, 'l> {
     desk: Desk<'k, 'l>,
 }
 
+// Each call tests its scratch itself: one line, where a function for both would be no plainer.
 impl Player<'_, '_> {
     fn announced(&mut self, case: &Case) -> Result<Vec<u8>, Stop> {
         let hash = case.bytes(self.heap, "hash")?;
