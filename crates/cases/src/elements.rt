@@ -20,18 +20,25 @@ use std::alloc::Global;
 
 // A kind of number whose bytes are those of its residue.
 pub(crate) trait Element: Coefficient + Packed {
+    // What a list lent for the result holds before the call.
+    const LENT: Self;
+
     ghost residue_bytes: { ℕ → List ℕ };
 
     ghost same: { (x : Self) → Self.packed x ≡ residue_bytes (Self.residue x) };
 }
 
 impl Element for i64 {
+    const LENT: i64 = 7;
+
     ghost residue_bytes = { word_bytes };
 
     ghost same = { Prim.search rules };
 }
 
 impl Element for Bit {
+    const LENT: Bit = Bit(true);
+
     ghost residue_bytes = { bit_bytes };
 
     ghost same = { Prim.search rules };
@@ -55,7 +62,7 @@ fn written<K: Element>(
 fn product<K: Element>(heap: Global, a: &[K], b: &[K]) -> Result<Vec<u8>, Stop>
     ensures { Gives vec_items (Some (product_text K.modulus K.residue_bytes (values K.residue a.now) (values K.residue b.now))) result }
 {
-    let mut out = vec![in heap; K::ONE; a.len()]?;
+    let mut out = vec![in heap; K::LENT; a.len()]?;
     let answer = ring::product(a, b, out.as_mut_slice());
     written(heap, answer, out.as_slice())
 }
@@ -63,7 +70,7 @@ fn product<K: Element>(heap: Global, a: &[K], b: &[K]) -> Result<Vec<u8>, Stop>
 fn sum<K: Element>(heap: Global, a: &[K], b: &[K]) -> Result<Vec<u8>, Stop>
     ensures { Gives vec_items (Some (sum_text K.modulus K.residue_bytes (values K.residue a.now) (values K.residue b.now))) result }
 {
-    let mut out = vec![in heap; K::ONE; a.len()]?;
+    let mut out = vec![in heap; K::LENT; a.len()]?;
     let answer = ring::sum(a, b, out.as_mut_slice());
     written(heap, answer, out.as_slice())
 }
@@ -71,7 +78,7 @@ fn sum<K: Element>(heap: Global, a: &[K], b: &[K]) -> Result<Vec<u8>, Stop>
 fn adjoint<K: Element>(heap: Global, a: &[K]) -> Result<Vec<u8>, Stop>
     ensures { Gives vec_items (Some (adjoint_text K.modulus K.residue_bytes (values K.residue a.now))) result }
 {
-    let mut out = vec![in heap; K::ONE; a.len()]?;
+    let mut out = vec![in heap; K::LENT; a.len()]?;
     let answer = ring::adjoint(a, out.as_mut_slice());
     written(heap, answer, out.as_slice())
 }
@@ -98,7 +105,7 @@ fn coefficient<K: Coefficient>(a: &[K], k: usize, i: usize) -> Result<K, RingFau
 fn turned<K: Element>(heap: Global, a: &[K], k: usize) -> Result<Vec<u8>, Stop>
     ensures { Gives vec_items (Some (turned_text K.modulus K.residue_bytes (values K.residue a.now) k)) result }
 {
-    let mut out = vec![in heap; K::ONE; a.len()]?;
+    let mut out = vec![in heap; K::LENT; a.len()]?;
     let answer = turn(a, k, out.as_mut_slice());
     written(heap, answer, out.as_slice())
 }

@@ -6,7 +6,7 @@ pub mod Determinants
 pub mod Sound
 pub mod Fours
 pub mod Firsts
-pub mod Tables
+pub mod Copies
 pub mod Sections
 pub mod Taking
 pub mod KeyTests

@@ -43,9 +43,9 @@ product_small a b k wa wb =
     let long = length_adjoint a in
     omega (arith, coefficient_size key_limit key_limit (adjoint a) b k (bounded_adjoint key_limit a (bounded_from key_limit a wa.small)) (bounded_from key_limit b wb.small), long, wa.few)
 
--- a*·b + c*·d in memory
+-- a*·b + c*·d
 module _ (a b c d : List ℤ) (few : length a ≤ room_of) (same : length c ≡ length a) where
-  length_starred : length (starred a b c d) ≡ length a
+  pub length_starred : length (starred a b c d) ≡ length a
   unfolding starred
   length_starred =
       let la = length_adjoint a in
@@ -54,7 +54,7 @@ module _ (a b c d : List ℤ) (few : length a ≤ room_of) (same : length c ≡ 
       let pc = length_product (adjoint c) d in
       length_sum (product (adjoint a) b) (product (adjoint c) d) (omega arith) ∙ pa ∙ la
 
-  starred_at : (k : ℕ) → k < length a → get_or (starred a b c d) k (pos 0) ≡ coefficient (adjoint a) b k +ℤ coefficient (adjoint c) d k
+  pub starred_at : (k : ℕ) → k < length a → get_or (starred a b c d) k (pos 0) ≡ coefficient (adjoint a) b k +ℤ coefficient (adjoint c) d k
   unfolding starred
   starred_at k h =
       let la = length_adjoint a in
@@ -62,27 +62,3 @@ module _ (a b c d : List ℤ) (few : length a ≤ room_of) (same : length c ≡ 
       let pa = length_product (adjoint a) b in
       let pc = length_product (adjoint c) d in
       sum_at (product (adjoint a) b) (product (adjoint c) d) k (omega arith) (omega arith) ∙ rw (product_at (adjoint a) b k (omega arith), product_at (adjoint c) d k (omega arith))
-
-  pub table_is : (memory : List ℤ) → length memory ≡ room_of
-      → ((k : ℕ) (z : ℤ) → 0 ≤ k → k < room_of → (k < length a → get_or memory k z ≡ coefficient (adjoint a) b k +ℤ coefficient (adjoint c) d k) × (length a ≤ k → get_or memory k z ≡ pos 0))
-      → memory ≡ padded (starred a b c d)
-  unfolding padded
-  table_is memory long at =
-      let n = length_starred in
-      let rest = length-replicate (room_of - length (starred a b c d)) (pos 0) in
-      let whole = length-append (starred a b c d) (replicate (room_of - length (starred a b c d)) (pos 0)) in
-      ext_get_or (pos 0) memory (starred a b c d ++ replicate (room_of - length (starred a b c d)) (pos 0)) (omega arith)
-      (λ k h.
-      let entry = at k (pos 0) (omega arith) (omega arith) in
-      go k (ltb k (length a)) refl entry (omega arith))
-    where
-      go : (k : ℕ) (t : Bool) → ltb k (length a) ≡ t → (k < length a → get_or memory k (pos 0) ≡ coefficient (adjoint a) b k +ℤ coefficient (adjoint c) d k) × (length a ≤ k → get_or memory k (pos 0) ≡ pos 0)
-          → k < room_of → get_or memory k (pos 0) ≡ get_or (starred a b c d ++ replicate (room_of - length (starred a b c d)) (pos 0)) k (pos 0)
-      go k true e entry h =
-          let n = length_starred in
-          let below = ltb-true k (length a) e in
-          entry.0 below ∙ sym (get_or_append_left (starred a b c d) (replicate (room_of - length (starred a b c d)) (pos 0)) (pos 0) k (omega arith) ∙ starred_at k below)
-      go k false e entry h =
-          let n = length_starred in
-          let above = ltb-false k (length a) e in
-          entry.1 above ∙ sym (get_or-append_right (starred a b c d) (replicate (room_of - length (starred a b c d)) (pos 0)) (length (starred a b c d)) k (pos 0) refl (omega arith) ∙ get_or-replicate (room_of - length (starred a b c d)) (k - length (starred a b c d)) (pos 0) (pos 0) (omega arith))

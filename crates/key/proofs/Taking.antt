@@ -91,13 +91,17 @@ pub front_padded : (class : Class) (xs : List ℤ) → length xs ≡ size_of cla
 unfolding front padded
 front_padded class xs e = take_at xs (replicate _ (pos 0)) (size_of class) e
 
+-- numbers whose zeros are 0
+pub padded_is : (n : ℕ) (numbers memory : List ℤ) → InMemory (λ x. x ≡ pos 0) n numbers memory → memory ≡ padded numbers
+unfolding padded
+padded_is n numbers memory held = held.memory_is ∙ ap (λ z. numbers ++ replicate (room_of - length numbers) z) held.is_zero
+
 module _ {limit n : ℕ} (numbers memory : List ℤ) where
   pub element_from : (width place : ℕ) (read : List ℤ) → read ≡ numbers → first_failing (limit_test limit width place (map (λ x. x) read) ∷ []) ≡ None → InMemory (λ x. x ≡ pos 0) n read memory → Element limit n numbers memory
-  unfolding padded
   element_from width place read e none held = record {
     long = ap length (sym e) ∙ held.long;
     small = ap (all_within limit) (sym (map-id read ∙ e)) ∙ (none_parts (limit_test limit width place (map (λ x. x) read)) [] none).0;
-    memory_is = held.memory_is ∙ ap (λ z. read ++ replicate (room_of - length read) z) held.is_zero ∙ ap (λ xs. xs ++ replicate (room_of - length xs) (pos 0)) e;
+    memory_is = padded_is n read memory held ∙ ap padded e;
   }
 
   pub front_element : (class : Class) → size_of class ≡ n → Element limit n numbers memory → front class memory ≡ numbers

@@ -3,3 +3,4 @@ pub mod Texts
 pub mod Returns
 pub mod Numerals
 pub mod Words
+pub mod Bits

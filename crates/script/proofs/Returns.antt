@@ -1,6 +1,8 @@
 -- The text of bytes stands for those bytes.
 use Rattle.std.proofs.Common.{◌≡◌, ℕ, suc, ◌+◌, ◌*◌, ◌/◌, ◌%◌, ◌<◌, ◌≤◌, true, List, [], ◌∷◌, length, get_or, Some, refl, ap, ◌∙◌, inl, inr, arith}
 use Rattle.std.specs.Char.{digit_char}
+use Rattle.std.specs.Str.{IsAscii}
+use Rattle.std.proofs.lemmas.Str.Ascii.{IsAscii-nil, IsAscii-cons}
 use Rattle.std.proofs.lemmas.Bool.{cases_lt, lt-ltb, le-ltb}
 use Rattle.std.proofs.lemmas.Bool.Decides.{nat_tests}
 use Rattle.script.specs.Hexadecimal.{every, by_twos, hex_digit, is_hex_digit, hex_byte, is_hex, hex_bytes, hex_digits, hex_text}
@@ -34,6 +36,18 @@ all_digits [] h = refl
 all_digits (b ∷ bytes) h =
     let small : b < 256 = h 0 in
     rw (digit_back (b / 16) (omega arith), digit_back (b % 16) (omega arith)) (all_digits bytes (λ i. h (suc i)))
+
+digit_small : (d : ℕ) → d < 16 → digit_char d < 128
+digit_small d h =
+    elim (cases_lt d 10) [ inl l ↦ rw (lt-ltb d 10 l) (omega arith) | inr g ↦ rw (le-ltb d 10 g) (omega arith) ]
+
+pub digits_ascii : (bytes : List ℕ) → Small bytes → IsAscii (hex_digits bytes)
+unfolding hex_digits
+digits_ascii [] h = IsAscii-nil
+digits_ascii (b ∷ bytes) h =
+    let small : b < 256 = h 0 in
+    IsAscii-cons (digit_char (b / 16)) (digit_char (b % 16) ∷ hex_digits bytes) (digit_small (b / 16) (omega arith))
+    (IsAscii-cons (digit_char (b % 16)) (hex_digits bytes) (digit_small (b % 16) (omega arith)) (digits_ascii bytes (λ i. h (suc i))))
 
 two_each : (bytes : List ℕ) → length (hex_digits bytes) ≡ 2 * length bytes
 unfolding hex_digits

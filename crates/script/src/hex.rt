@@ -1,10 +1,12 @@
 // Bytes as lower-case hexadecimal text.
-ghost use Rattle.std.specs.Prelude.{◌≡◌, ◌&&◌, if◌then◌else◌, IfOk, Some, None, vec_items, string_bytes};
+ghost use Rattle.std.specs.Prelude.{◌≡◌, ◌*◌, ◌<◌, length, IfOk, Some, None, vec_items, string_bytes};
+ghost use Rattle.std.specs.Char.{digit_char};
+ghost use Rattle.std.specs.Str.{IsAscii};
 ghost use Rattle.std.specs.Option.{option_map};
-ghost use Rattle.script.specs.Hexadecimal.{hex_digit, is_hex_digit, hex_byte, hex_bytes, hex_text};
+ghost use Rattle.script.specs.Hexadecimal.{every, hex_digit, is_hex_digit, hex_byte, hex_bytes, hex_digits, hex_text, is_hex};
 
 use std::alloc::{AllocError, Global};
-use std::fmt;
+use std::{fmt, str};
 
 // `char::to_digit` would take upper case as well.
 pub fn hex_digit(c: u8) -> Option<u8>
@@ -18,10 +20,27 @@ pub fn hex_digit(c: u8) -> Option<u8>
 }
 
 // The byte that two digits stand for, the higher one first.
-fn byte(high: u8, low: u8) -> Option<u8>
-    ensures { result ≡ (if is_hex_digit high && is_hex_digit low then Some (hex_byte high low) else None) }
+fn byte(high: u8, low: u8) -> u8
+    ensures { result ≡ hex_byte high low }
 {
-    Some(hex_digit(high)? * 16 + hex_digit(low)?)
+    hex_digit(high).unwrap_or(0) * 16 + hex_digit(low).unwrap_or(0)
+}
+
+// With no early end, so that many characters are tested at a time.
+fn all_digits(text: &[u8]) -> bool
+    ensures { result ≡ every is_hex_digit text.now }
+{
+    let mut good = true;
+    for c in text {
+        good = good & hex_digit(*c).is_some();
+    }
+    good
+}
+
+fn is_hex(text: &[u8]) -> bool
+    ensures { result ≡ is_hex text.now }
+{
+    !text.is_empty() && text.len() % 2 == 0 && all_digits(text)
 }
 
 // The bytes that text stands for, where it is hexadecimal; `-` stands for none.
@@ -31,18 +50,40 @@ pub fn hex_bytes(heap: Global, text: &[u8]) -> Result<Option<Vec<u8>>, AllocErro
     if text == b"-".as_slice() {
         return Ok(Some(Vec::new(heap)));
     }
-    let (pairs, odd) = text.as_chunks::<2>();
-    if pairs.is_empty() || !odd.is_empty() {
+    // Tested first: a text that is not hexadecimal takes no memory.
+    if !is_hex(text) {
         return Ok(None);
     }
-    let mut bytes = Vec::new(heap);
-    for &[high, low] in pairs {
-        let Some(b) = byte(high, low) else {
-            return Ok(None);
-        };
-        bytes.push(b)?;
-    }
+    let (pairs, _) = text.as_chunks::<2>();
+    let bytes = pairs
+        .iter()
+        .map(|pair| byte(pair[0], pair[1]))
+        .collect(heap)?;
     Ok(Some(bytes))
+}
+
+// The digit of a value below 16.
+fn digit(value: u8) -> u8
+    requires { value < 16 }
+    ensures { result ≡ digit_char value }
+{
+    if value < 10 {
+        b'0' + value
+    } else {
+        b'a' - 10 + value
+    }
+}
+
+// Writes two digits for each byte.
+fn write_digits(bytes: &[u8], text: &mut [u8])
+    requires { length text.old ≡ 2 * length bytes.now }
+    ensures text { text.new ≡ hex_digits bytes.now }
+    ensures ascii { IsAscii text.new }
+{
+    for (i, b) in bytes.iter().enumerate() {
+        text[2 * i] = digit(*b / 16);
+        text[2 * i + 1] = digit(*b % 16);
+    }
 }
 
 // Prints two digits for each byte; no bytes are written as `-`.
@@ -56,8 +97,15 @@ impl fmt::Display for Hex<'_> {
         if self.0.is_empty() {
             return f.write_str("-");
         }
-        for &b in self.0 {
-            write!(f, "{b:02x}")?;
+        // A group at a time: `{b:02x}` for each byte takes several times as long.
+        let mut memory = [0u8; 128];
+        for group in self.0.chunks(64) {
+            let text = &mut memory[..2 * group.len()];
+            write_digits(group, text);
+            let Ok(text) = str::from_utf8(text) else {
+                unreachable!();
+            };
+            f.write_str(text)?;
         }
         Ok(())
     }

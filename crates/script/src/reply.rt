@@ -1,11 +1,12 @@
 // The text of each reply, with no newline.
-ghost use Rattle.std.specs.Prelude.{◌≡◌, ◌<◌, IfOk, Some, string_bytes};
+ghost use Rattle.std.specs.Prelude.{◌≡◌, ◌<◌, length, IfOk, Some, string_bytes};
+ghost use Rattle.std.specs.Str.{IsAscii};
 ghost use Rattle.script.specs.Replies.{Bytes, Target, Signed, bit_char, bit_text, signed_bytes, reply_bytes, answer_of};
 
 use crate::hex::Hex;
 use ring::{Class, Fault};
 use std::alloc::{AllocError, Global};
-use std::fmt;
+use std::{fmt, str};
 
 #[derive(Drop)]
 pub enum Reply {
@@ -41,6 +42,17 @@ fn bit_char(b: u8) -> char
     if b == 0 { '0' } else { '1' }
 }
 
+// Writes 0 or 1 for each byte.
+fn write_bits(bits: &[u8], text: &mut [u8])
+    requires { length text.old ≡ length bits.now }
+    ensures text { text.new ≡ bit_text bits.now }
+    ensures ascii { IsAscii text.new }
+{
+    for (i, b) in bits.iter().enumerate() {
+        text[i] = bit_char(*b) as u8;
+    }
+}
+
 // Prints 0 or 1 for each byte.
 #[derive(Clone, Copy)]
 struct Bits<'a>(&'a [u8]);
@@ -49,8 +61,15 @@ impl fmt::Display for Bits<'_> {
     ghost output = { λ bits. Some (bit_text bits.0.now) };
 
     fn fmt<W: fmt::Write>(&self, f: &mut fmt::Formatter<W>) -> fmt::Result {
-        for &b in self.0 {
-            f.write_char(bit_char(b))?;
+        // A group at a time, as `Hex`; the groups of both are of another length.
+        let mut memory = [0u8; 128];
+        for group in self.0.chunks(128) {
+            let text = &mut memory[..group.len()];
+            write_bits(group, text);
+            let Ok(text) = str::from_utf8(text) else {
+                unreachable!();
+            };
+            f.write_str(text)?;
         }
         Ok(())
     }

@@ -1,4 +1,3 @@
-pub mod Copies
 pub mod Parities
 pub mod Joins
 pub mod Aparts

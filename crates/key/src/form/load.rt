@@ -12,7 +12,7 @@ use crate::fault::FormFault;
 use crate::form::Form;
 use crate::memory::used;
 use crate::scratch::Guard;
-use crate::section::taken;
+use crate::section::{stored, tested};
 use crate::star::star;
 use slip::{Kind, Slip};
 
@@ -58,9 +58,12 @@ fn decoded(slip: &Slip<'_>, words: &mut [i64]) -> Result<Form, FormFault>
     ensures { Answers form_fault (form_body_tests slip.now.file.now) (λ form. FormLoaded slip.now.file.now form) result }
 {
     let class = slip.class();
-    let q00 = taken(slip, 0, FORM_LIMIT)?;
-    let q01 = taken(slip, 1, FORM_LIMIT)?;
-    let q11 = taken(slip, 2, FORM_LIMIT)?;
+    let q00 = stored(slip, 0);
+    tested(slip, 0, FORM_LIMIT, &q00)?;
+    let q01 = stored(slip, 1);
+    tested(slip, 1, FORM_LIMIT, &q01)?;
+    let q11 = stored(slip, 2);
+    tested(slip, 2, FORM_LIMIT, &q11)?;
     selfadjoint(used(&q00, class), used(&q11, class), words)?;
     Ok(Form {
         class,

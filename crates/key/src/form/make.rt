@@ -15,7 +15,7 @@ use crate::form::Form;
 use crate::key::Key;
 use crate::product::Product;
 use crate::scratch::Guard;
-use std::array::from_fn;
+use ring::filled;
 
 // A column of a key's basis: (f, g) or (F, G).
 #[derive(Clone, Copy)]
@@ -36,6 +36,17 @@ fn sum_at(top: &Product<'_, '_>, bottom: &Product<'_, '_>, k: usize) -> i32
     (top.at(k) + bottom.at(k)) as i32
 }
 
+// The sums of two products, as far as an element goes.
+fn write_sums(top: &Product<'_, '_>, bottom: &Product<'_, '_>, numbers: &mut [i32])
+    requires long { length numbers.old ≡ length top.now.a.now }
+    requires same { length bottom.now.a.now ≡ length top.now.a.now }
+    ensures { numbers.new ≡ starred top.now.a.now top.now.b.now bottom.now.a.now bottom.now.b.now }
+{
+    for (k, number) in numbers.iter_mut().enumerate() {
+        *number = sum_at(top, bottom, k);
+    }
+}
+
 // left*·right, the sum of both products, in fixed memory.
 fn entry<'a>(left: Column<'a>, right: Column<'a>, words: &mut [i64]) -> [i32; 1024]
     requires same { length right.top.now ≡ length left.top.now }
@@ -46,7 +57,10 @@ fn entry<'a>(left: Column<'a>, right: Column<'a>, words: &mut [i64]) -> [i32; 10
     let (top_words, bottom_words) = words.split_at_mut(2 * n);
     let top = Product::new(left.top, right.top, top_words);
     let bottom = Product::new(left.bottom, right.bottom, bottom_words);
-    from_fn(|k| if k < n { sum_at(&top, &bottom, k) } else { 0 })
+    let mut memory = filled(0);
+    let (numbers, _) = memory.split_at_mut(n);
+    write_sums(&top, &bottom, numbers);
+    memory
 }
 
 // The form of a key.

@@ -11,7 +11,7 @@ use crate::key::Key;
 use crate::key::words::Words;
 use crate::memory::used;
 use crate::scratch::Guard;
-use crate::section::taken;
+use crate::section::{stored, tested};
 use slip::{Kind, Slip};
 
 // The largest number of a key, in size.
@@ -24,10 +24,14 @@ fn decoded(slip: &Slip<'_>, words: &mut [i64]) -> Result<Key, KeyFault>
     ensures { Answers key_fault (body_tests slip.now.file.now) (λ k. Loaded slip.now.file.now k) result }
 {
     let class = slip.class();
-    let f = taken(slip, 0, KEY_LIMIT)?;
-    let g = taken(slip, 1, KEY_LIMIT)?;
-    let cap_f = taken(slip, 2, KEY_LIMIT)?;
-    let cap_g = taken(slip, 3, KEY_LIMIT)?;
+    let f = stored(slip, 0);
+    tested(slip, 0, KEY_LIMIT, &f)?;
+    let g = stored(slip, 1);
+    tested(slip, 1, KEY_LIMIT, &g)?;
+    let cap_f = stored(slip, 2);
+    tested(slip, 2, KEY_LIMIT, &cap_f)?;
+    let cap_g = stored(slip, 3);
+    tested(slip, 3, KEY_LIMIT, &cap_g)?;
     let elements = Words::new(
         used(&f, class),
         used(&g, class),

@@ -2,7 +2,7 @@ use Rattle.std.proofs.Common.{map, get_or, pos, sym, ap, ◌∙◌, arith, w8, S
 use Rattle.std.proofs.lemmas.List.{get_or-map, length-map}
 use Rattle.std.proofs.lemmas.Int.{to_z-of_z}
 use Rattle.ring.specs.Kinds.{rest, bit_value}
-use Rattle.signing.proofs.Copies.{read_more}
+use Rattle.key.proofs.Copies.{read_more}
 use Rattle.signing.proofs.bits.element_bits.Goals as goal
 
 pub loop-i-preserved : goal.loop-i-preserved

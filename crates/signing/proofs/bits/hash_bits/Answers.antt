@@ -3,7 +3,7 @@ use Rattle.std.specs.List.{range_with_len}
 use Rattle.std.proofs.lemmas.List.FromFn.{get_or-map-range_with_len, length-map-range_with_len}
 use Rattle.ring.specs.Kinds.{bit_value}
 use Rattle.scheme.specs.Hashes.{hash_bit}
-use Rattle.signing.proofs.Copies.{read_more, read_all}
+use Rattle.key.proofs.Copies.{read_more, read_all}
 use Rattle.signing.proofs.Parities.{hash_bit_is}
 use Rattle.signing.proofs.bits.hash_bits.Goals as goal
 

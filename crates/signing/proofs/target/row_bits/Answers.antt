@@ -2,7 +2,7 @@ use Rattle.std.proofs.Common.{map, pos, sym, ◌∙◌, arith}
 use Rattle.std.proofs.lemmas.List.{get_or-map, length-map}
 use Rattle.ring.specs.Kinds.{rest, values, bit_value}
 use Rattle.signing.specs.Rows.{joined}
-use Rattle.signing.proofs.Copies.{read_more, read_all}
+use Rattle.key.proofs.Copies.{read_more, read_all}
 use Rattle.signing.proofs.Joins.{length_joined, joined_bit}
 use Rattle.signing.proofs.target.row_bits.Goals as goal
 

@@ -2,7 +2,7 @@ use Rattle.std.proofs.Common.{◌≡◌, Bool, true, false, cond, map, get_or, s
 use mir.Val.{bool_byte}
 use Rattle.std.proofs.lemmas.List.{get_or-map, length-map}
 use Rattle.ring.specs.Kinds.{bit_value}
-use Rattle.signing.proofs.Copies.{copied_more}
+use Rattle.key.proofs.Copies.{copied_more}
 use Rattle.signing.proofs.target.write_bytes.Goals as goal
 
 byte_is : (b : Bool) → bool_byte b ≡ cond b 1 0

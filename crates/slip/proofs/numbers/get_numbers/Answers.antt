@@ -27,7 +27,7 @@ loop-i-preserved g c =
     let m = mul-le-mul_left {m = i} {n = length c.args.numbers.now} g.row.WIDTH (omega (arith, count)) in
     let word = word_at g.row.WIDTH i file read.result _ c.as_chunks.ensures.front (omega arith) read.is in
     let s = take_more_set c.loop-i.numbers i c.from_bytes.result (omega (arith, count)) in
-    let r = get_more g.row.WIDTH n.bytes n.numbers laws.bytes_length laws.bytes_append laws.numbers_append i file read.result c.from_bytes.result (omega arith) word c.from_bytes.ensures in
+    let r = get_more g.row.WIDTH n.bytes n.numbers laws.bytes_length laws.bytes_append laws.numbers_append i file _ c.from_bytes.result (omega arith) (search (rules, word)) c.from_bytes.ensures in
     cc
 
 pub returns : goal.returns

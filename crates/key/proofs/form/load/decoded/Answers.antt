@@ -13,49 +13,49 @@ use Rattle.key.proofs.form.load.decoded.Goals.{After-used-2}
 
 -- the three sections, taken
 module _ (c : After-used-2) where
-  q00_in : Element form_limit (size_of c.args.slip.now.class) (form_numbers_in c.args.slip.now.file.now 0) c.in_ok-q00.q00
-  q00_in = form_element c.args.slip.now c.requires.kind 0 c.in_ok-q00.q00 c.in_ok-q00.ensures
+  q00_in : Element form_limit (size_of c.args.slip.now.class) (form_numbers_in c.args.slip.now.file.now 0) c.stored-q00.result
+  q00_in = form_element c.args.slip.now c.requires.kind 0 c.stored-q00.result (c.in_ok-tested.ensures.0, c.stored-q00.ensures)
 
-  q01_in : Element form_limit (size_of c.args.slip.now.class) (form_numbers_in c.args.slip.now.file.now 1) c.in_ok-q01.q01
-  q01_in = form_element c.args.slip.now c.requires.kind 1 c.in_ok-q01.q01 c.in_ok-q01.ensures
+  q01_in : Element form_limit (size_of c.args.slip.now.class) (form_numbers_in c.args.slip.now.file.now 1) c.stored-q01.result
+  q01_in = form_element c.args.slip.now c.requires.kind 1 c.stored-q01.result (c.in_ok-tested-2.ensures.0, c.stored-q01.ensures)
 
-  q11_in : Element form_limit (size_of c.args.slip.now.class) (form_numbers_in c.args.slip.now.file.now 2) c.in_ok-q11.q11
-  q11_in = form_element c.args.slip.now c.requires.kind 2 c.in_ok-q11.q11 c.in_ok-q11.ensures
+  q11_in : Element form_limit (size_of c.args.slip.now.class) (form_numbers_in c.args.slip.now.file.now 2) c.stored-q11.result
+  q11_in = form_element c.args.slip.now c.requires.kind 2 c.stored-q11.result (c.in_ok-tested-3.ensures.0, c.stored-q11.ensures)
 
-  q00_is : front c.class-class.result c.in_ok-q00.q00 ≡ form_numbers_in c.args.slip.now.file.now 0
-  q00_is = front_element (form_numbers_in c.args.slip.now.file.now 0) c.in_ok-q00.q00 c.class-class.result (ap size_of c.class-class.ensures) q00_in
+  q00_is : front c.class-class.result c.stored-q00.result ≡ form_numbers_in c.args.slip.now.file.now 0
+  q00_is = front_element (form_numbers_in c.args.slip.now.file.now 0) c.stored-q00.result c.class-class.result (ap size_of c.class-class.ensures) q00_in
 
-  q01_is : front c.class-class.result c.in_ok-q01.q01 ≡ form_numbers_in c.args.slip.now.file.now 1
-  q01_is = front_element (form_numbers_in c.args.slip.now.file.now 1) c.in_ok-q01.q01 c.class-class.result (ap size_of c.class-class.ensures) q01_in
+  q01_is : front c.class-class.result c.stored-q01.result ≡ form_numbers_in c.args.slip.now.file.now 1
+  q01_is = front_element (form_numbers_in c.args.slip.now.file.now 1) c.stored-q01.result c.class-class.result (ap size_of c.class-class.ensures) q01_in
 
-  q11_is : front c.class-class.result c.in_ok-q11.q11 ≡ form_numbers_in c.args.slip.now.file.now 2
-  q11_is = front_element (form_numbers_in c.args.slip.now.file.now 2) c.in_ok-q11.q11 c.class-class.result (ap size_of c.class-class.ensures) q11_in
+  q11_is : front c.class-class.result c.stored-q11.result ≡ form_numbers_in c.args.slip.now.file.now 2
+  q11_is = front_element (form_numbers_in c.args.slip.now.file.now 2) c.stored-q11.result c.class-class.result (ap size_of c.class-class.ensures) q11_in
 
   ranges : first_failing (form_body_tests c.args.slip.now.file.now) ≡ first_failing (adjoint_tests c.used.result.now c.used-2.result.now)
   ranges =
-      after_form_ranges c.args.slip.now.file.now c.in_ok-q00.q00 c.in_ok-q01.q01 c.in_ok-q11.q11 q00_in q01_in q11_in
+      after_form_ranges c.args.slip.now.file.now c.stored-q00.result c.stored-q01.result c.stored-q11.result q00_in q01_in q11_in
       ∙ same_adjoints c.used.result.now c.used-2.result.now _ _ (c.used.ensures.value ∙ q00_is) (c.used-2.ensures.value ∙ q11_is)
 
-pub returns-in_err-q00 : goal.returns-in_err-q00
-returns-in_err-q00 c =
+pub returns-in_err-tested : goal.returns-in_err-tested
+returns-in_err-tested c =
     let s = c.args.slip.now in
     let p = err_from_is_err_and c.from_residual.result c.from_residual.ensures.1 in
-    rw (p.1, p.2) (form_stops_0 s.file.now _ (sym (form_test s c.requires.kind 0) ∙ c.in_err-q00.ensures))
+    rw (p.1, p.2) (form_stops_0 s.file.now _ (sym (form_test s c.requires.kind 0) ∙ c.in_err-tested.ensures))
 
-pub returns-in_err-q01 : goal.returns-in_err-q01
-returns-in_err-q01 c =
+pub returns-in_err-tested-2 : goal.returns-in_err-tested-2
+returns-in_err-tested-2 c =
     let s = c.args.slip.now in
-    let q00 = form_element s c.requires.kind 0 c.in_ok-q00.q00 c.in_ok-q00.ensures in
-    let p = err_from_is_err_and c.from_residual-in_err-q01.result c.from_residual-in_err-q01.ensures.1 in
-    rw (p.1, p.2) (form_stops_1 s.file.now _ _ q00 (sym (form_test s c.requires.kind 1) ∙ c.in_err-q01.ensures))
+    let q00 = form_element s c.requires.kind 0 c.stored-q00.result (c.in_ok-tested.ensures.0, c.stored-q00.ensures) in
+    let p = err_from_is_err_and c.from_residual-in_err-tested-2.result c.from_residual-in_err-tested-2.ensures.1 in
+    rw (p.1, p.2) (form_stops_1 s.file.now _ _ q00 (sym (form_test s c.requires.kind 1) ∙ c.in_err-tested-2.ensures))
 
-pub returns-in_err-q11 : goal.returns-in_err-q11
-returns-in_err-q11 c =
+pub returns-in_err-tested-3 : goal.returns-in_err-tested-3
+returns-in_err-tested-3 c =
     let s = c.args.slip.now in
-    let q00 = form_element s c.requires.kind 0 c.in_ok-q00.q00 c.in_ok-q00.ensures in
-    let q01 = form_element s c.requires.kind 1 c.in_ok-q01.q01 c.in_ok-q01.ensures in
-    let p = err_from_is_err_and c.from_residual-in_err-q11.result c.from_residual-in_err-q11.ensures.1 in
-    rw (p.1, p.2) (form_stops_2 s.file.now _ _ _ q00 q01 (sym (form_test s c.requires.kind 2) ∙ c.in_err-q11.ensures))
+    let q00 = form_element s c.requires.kind 0 c.stored-q00.result (c.in_ok-tested.ensures.0, c.stored-q00.ensures) in
+    let q01 = form_element s c.requires.kind 1 c.stored-q01.result (c.in_ok-tested-2.ensures.0, c.stored-q01.ensures) in
+    let p = err_from_is_err_and c.from_residual-in_err-tested-3.result c.from_residual-in_err-tested-3.ensures.1 in
+    rw (p.1, p.2) (form_stops_2 s.file.now _ _ _ q00 q01 (sym (form_test s c.requires.kind 2) ∙ c.in_err-tested-3.ensures))
 
 pub selfadjoint-requires-clause-small_q00 : goal.selfadjoint-requires-clause-small_q00
 selfadjoint-requires-clause-small_q00 c =

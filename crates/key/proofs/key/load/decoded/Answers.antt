@@ -18,73 +18,73 @@ use Rattle.key.proofs.key.load.decoded.Goals.{After-used-4}
 
 -- the four sections, taken
 module _ (c : After-used-4) where
-  f_in : Element key_limit (size_of c.args.slip.now.class) (numbers_in c.args.slip.now.file.now 0) c.in_ok-f.f
-  f_in = key_element c.args.slip.now c.requires.kind 0 c.in_ok-f.f c.in_ok-f.ensures
+  f_in : Element key_limit (size_of c.args.slip.now.class) (numbers_in c.args.slip.now.file.now 0) c.stored-f.result
+  f_in = key_element c.args.slip.now c.requires.kind 0 c.stored-f.result (c.in_ok-tested.ensures.0, c.stored-f.ensures)
 
-  g_in : Element key_limit (size_of c.args.slip.now.class) (numbers_in c.args.slip.now.file.now 1) c.in_ok-g.g
-  g_in = key_element c.args.slip.now c.requires.kind 1 c.in_ok-g.g c.in_ok-g.ensures
+  g_in : Element key_limit (size_of c.args.slip.now.class) (numbers_in c.args.slip.now.file.now 1) c.stored-g.result
+  g_in = key_element c.args.slip.now c.requires.kind 1 c.stored-g.result (c.in_ok-tested-2.ensures.0, c.stored-g.ensures)
 
-  F_in : Element key_limit (size_of c.args.slip.now.class) (numbers_in c.args.slip.now.file.now 2) c.in_ok-cap_f.cap_f
-  F_in = key_element c.args.slip.now c.requires.kind 2 c.in_ok-cap_f.cap_f c.in_ok-cap_f.ensures
+  F_in : Element key_limit (size_of c.args.slip.now.class) (numbers_in c.args.slip.now.file.now 2) c.stored-cap_f.result
+  F_in = key_element c.args.slip.now c.requires.kind 2 c.stored-cap_f.result (c.in_ok-tested-3.ensures.0, c.stored-cap_f.ensures)
 
-  G_in : Element key_limit (size_of c.args.slip.now.class) (numbers_in c.args.slip.now.file.now 3) c.in_ok-cap_g.cap_g
-  G_in = key_element c.args.slip.now c.requires.kind 3 c.in_ok-cap_g.cap_g c.in_ok-cap_g.ensures
+  G_in : Element key_limit (size_of c.args.slip.now.class) (numbers_in c.args.slip.now.file.now 3) c.stored-cap_g.result
+  G_in = key_element c.args.slip.now c.requires.kind 3 c.stored-cap_g.result (c.in_ok-tested-4.ensures.0, c.stored-cap_g.ensures)
 
-  f_is : front c.class-class.result c.in_ok-f.f ≡ numbers_in c.args.slip.now.file.now 0
-  f_is = front_element (numbers_in c.args.slip.now.file.now 0) c.in_ok-f.f c.class-class.result (ap size_of c.class-class.ensures) f_in
+  f_is : front c.class-class.result c.stored-f.result ≡ numbers_in c.args.slip.now.file.now 0
+  f_is = front_element (numbers_in c.args.slip.now.file.now 0) c.stored-f.result c.class-class.result (ap size_of c.class-class.ensures) f_in
 
-  g_is : front c.class-class.result c.in_ok-g.g ≡ numbers_in c.args.slip.now.file.now 1
-  g_is = front_element (numbers_in c.args.slip.now.file.now 1) c.in_ok-g.g c.class-class.result (ap size_of c.class-class.ensures) g_in
+  g_is : front c.class-class.result c.stored-g.result ≡ numbers_in c.args.slip.now.file.now 1
+  g_is = front_element (numbers_in c.args.slip.now.file.now 1) c.stored-g.result c.class-class.result (ap size_of c.class-class.ensures) g_in
 
-  F_is : front c.class-class.result c.in_ok-cap_f.cap_f ≡ numbers_in c.args.slip.now.file.now 2
-  F_is = front_element (numbers_in c.args.slip.now.file.now 2) c.in_ok-cap_f.cap_f c.class-class.result (ap size_of c.class-class.ensures) F_in
+  F_is : front c.class-class.result c.stored-cap_f.result ≡ numbers_in c.args.slip.now.file.now 2
+  F_is = front_element (numbers_in c.args.slip.now.file.now 2) c.stored-cap_f.result c.class-class.result (ap size_of c.class-class.ensures) F_in
 
-  G_is : front c.class-class.result c.in_ok-cap_g.cap_g ≡ numbers_in c.args.slip.now.file.now 3
-  G_is = front_element (numbers_in c.args.slip.now.file.now 3) c.in_ok-cap_g.cap_g c.class-class.result (ap size_of c.class-class.ensures) G_in
+  G_is : front c.class-class.result c.stored-cap_g.result ≡ numbers_in c.args.slip.now.file.now 3
+  G_is = front_element (numbers_in c.args.slip.now.file.now 3) c.stored-cap_g.result c.class-class.result (ap size_of c.class-class.ensures) G_in
 
   four_read : FourWords c.used.result.now c.used-2.result.now c.used-3.result.now c.used-4.result.now
-  four_read = four_used c.args.slip.now c.in_ok-f.f c.in_ok-g.g c.in_ok-cap_f.cap_f c.in_ok-cap_g.cap_g f_in g_in F_in G_in c.used.result.now c.used-2.result.now c.used-3.result.now c.used-4.result.now
+  four_read = four_used c.args.slip.now c.stored-f.result c.stored-g.result c.stored-cap_f.result c.stored-cap_g.result f_in g_in F_in G_in c.used.result.now c.used-2.result.now c.used-3.result.now c.used-4.result.now
       (c.used.ensures.value ∙ f_is) (c.used-2.ensures.value ∙ g_is) (c.used-3.ensures.value ∙ F_is) (c.used-4.ensures.value ∙ G_is)
 
   sound_read : (w : Words) → basis_as w ≡ basis c.used.result.now c.used-2.result.now c.used-3.result.now c.used-4.result.now
       → sound_tests (length w.f.now) (basis_as w) ≡ sound_tests (size_named c.args.slip.now.file.now) (basis_in c.args.slip.now.file.now)
-  sound_read = sound_is c.args.slip.now c.in_ok-f.f c.in_ok-g.g c.in_ok-cap_f.cap_f c.in_ok-cap_g.cap_g f_in g_in F_in G_in c.used.result.now c.used-2.result.now c.used-3.result.now c.used-4.result.now
+  sound_read = sound_is c.args.slip.now c.stored-f.result c.stored-g.result c.stored-cap_f.result c.stored-cap_g.result f_in g_in F_in G_in c.used.result.now c.used-2.result.now c.used-3.result.now c.used-4.result.now
       (c.used.ensures.value ∙ f_is) (c.used-2.ensures.value ∙ g_is) (c.used-3.ensures.value ∙ F_is) (c.used-4.ensures.value ∙ G_is)
 
   ranges : first_failing (body_tests c.args.slip.now.file.now) ≡ first_failing (sound_tests (size_named c.args.slip.now.file.now) (basis_in c.args.slip.now.file.now))
   ranges =
       let s = c.args.slip.now in
-      after_ranges s.file.now (sym (key_test s c.requires.kind 0) ∙ c.in_ok-f.ensures.0) (sym (key_test s c.requires.kind 1) ∙ c.in_ok-g.ensures.0) (sym (key_test s c.requires.kind 2) ∙ c.in_ok-cap_f.ensures.0) (sym (key_test s c.requires.kind 3) ∙ c.in_ok-cap_g.ensures.0)
+      after_ranges s.file.now (sym (key_test s c.requires.kind 0) ∙ c.in_ok-tested.ensures.0) (sym (key_test s c.requires.kind 1) ∙ c.in_ok-tested-2.ensures.0) (sym (key_test s c.requires.kind 2) ∙ c.in_ok-tested-3.ensures.0) (sym (key_test s c.requires.kind 3) ∙ c.in_ok-tested-4.ensures.0)
 
-pub returns-in_err-f : goal.returns-in_err-f
-returns-in_err-f c =
+pub returns-in_err-tested : goal.returns-in_err-tested
+returns-in_err-tested c =
     let s = c.args.slip.now in
     let p = err_from_is_err_and c.from_residual.result c.from_residual.ensures.1 in
-    rw (p.1, p.2) (stops_0 s.file.now _ (sym (key_test s c.requires.kind 0) ∙ c.in_err-f.ensures))
+    rw (p.1, p.2) (stops_0 s.file.now _ (sym (key_test s c.requires.kind 0) ∙ c.in_err-tested.ensures))
 
-pub returns-in_err-g : goal.returns-in_err-g
-returns-in_err-g c =
+pub returns-in_err-tested-2 : goal.returns-in_err-tested-2
+returns-in_err-tested-2 c =
     let s = c.args.slip.now in
-    let none = sym (key_test s c.requires.kind 0) ∙ c.in_ok-f.ensures.0 in
-    let p = err_from_is_err_and c.from_residual-in_err-g.result c.from_residual-in_err-g.ensures.1 in
-    rw (p.1, p.2) (stops_1 s.file.now _ none (sym (key_test s c.requires.kind 1) ∙ c.in_err-g.ensures))
+    let none = sym (key_test s c.requires.kind 0) ∙ c.in_ok-tested.ensures.0 in
+    let p = err_from_is_err_and c.from_residual-in_err-tested-2.result c.from_residual-in_err-tested-2.ensures.1 in
+    rw (p.1, p.2) (stops_1 s.file.now _ none (sym (key_test s c.requires.kind 1) ∙ c.in_err-tested-2.ensures))
 
-pub returns-in_err-cap_f : goal.returns-in_err-cap_f
-returns-in_err-cap_f c =
+pub returns-in_err-tested-3 : goal.returns-in_err-tested-3
+returns-in_err-tested-3 c =
     let s = c.args.slip.now in
-    let none = sym (key_test s c.requires.kind 0) ∙ c.in_ok-f.ensures.0 in
-    let none-g = sym (key_test s c.requires.kind 1) ∙ c.in_ok-g.ensures.0 in
-    let p = err_from_is_err_and c.from_residual-in_err-cap_f.result c.from_residual-in_err-cap_f.ensures.1 in
-    rw (p.1, p.2) (stops_2 s.file.now _ none none-g (sym (key_test s c.requires.kind 2) ∙ c.in_err-cap_f.ensures))
+    let none = sym (key_test s c.requires.kind 0) ∙ c.in_ok-tested.ensures.0 in
+    let none-g = sym (key_test s c.requires.kind 1) ∙ c.in_ok-tested-2.ensures.0 in
+    let p = err_from_is_err_and c.from_residual-in_err-tested-3.result c.from_residual-in_err-tested-3.ensures.1 in
+    rw (p.1, p.2) (stops_2 s.file.now _ none none-g (sym (key_test s c.requires.kind 2) ∙ c.in_err-tested-3.ensures))
 
-pub returns-in_err-cap_g : goal.returns-in_err-cap_g
-returns-in_err-cap_g c =
+pub returns-in_err-tested-4 : goal.returns-in_err-tested-4
+returns-in_err-tested-4 c =
     let s = c.args.slip.now in
-    let none = sym (key_test s c.requires.kind 0) ∙ c.in_ok-f.ensures.0 in
-    let none-g = sym (key_test s c.requires.kind 1) ∙ c.in_ok-g.ensures.0 in
-    let none-F = sym (key_test s c.requires.kind 2) ∙ c.in_ok-cap_f.ensures.0 in
-    let p = err_from_is_err_and c.from_residual-in_err-cap_g.result c.from_residual-in_err-cap_g.ensures.1 in
-    rw (p.1, p.2) (stops_3 s.file.now _ none none-g none-F (sym (key_test s c.requires.kind 3) ∙ c.in_err-cap_g.ensures))
+    let none = sym (key_test s c.requires.kind 0) ∙ c.in_ok-tested.ensures.0 in
+    let none-g = sym (key_test s c.requires.kind 1) ∙ c.in_ok-tested-2.ensures.0 in
+    let none-F = sym (key_test s c.requires.kind 2) ∙ c.in_ok-tested-3.ensures.0 in
+    let p = err_from_is_err_and c.from_residual-in_err-tested-4.result c.from_residual-in_err-tested-4.ensures.1 in
+    rw (p.1, p.2) (stops_3 s.file.now _ none none-g none-F (sym (key_test s c.requires.kind 3) ∙ c.in_err-tested-4.ensures))
 
 pub new-elements-requires-clause-elements : goal.new-elements-requires-clause-elements
 new-elements-requires-clause-elements c = four_read (goal.at.new-elements-requires-clause-elements c).After-used-4
@@ -110,9 +110,9 @@ invariant_of-result c =
       small_g = ap (all_within key_limit) g ∙ (g_in at).small;
       small_cap_f = ap (all_within key_limit) F ∙ (F_in at).small;
       small_cap_g = ap (all_within key_limit) G ∙ (G_in at).small;
-      odd_f = ap (λ xs. odd (total xs)) f ∙ f_odd s c.in_ok-f.f c.in_ok-g.g c.in_ok-cap_f.cap_f c.in_ok-cap_g.cap_g (f_in at) (g_in at) (F_in at) (G_in at) none;
-      odd_g = ap (λ xs. odd (total xs)) g ∙ g_odd s c.in_ok-f.f c.in_ok-g.g c.in_ok-cap_f.cap_f c.in_ok-cap_g.cap_g (f_in at) (g_in at) (F_in at) (G_in at) none;
-      unit_determinant = rw (f, g, F, G, size) (unit s c.in_ok-f.f c.in_ok-g.g c.in_ok-cap_f.cap_f c.in_ok-cap_g.cap_g (f_in at) (g_in at) (F_in at) (G_in at) none);
+      odd_f = ap (λ xs. odd (total xs)) f ∙ f_odd s c.stored-f.result c.stored-g.result c.stored-cap_f.result c.stored-cap_g.result (f_in at) (g_in at) (F_in at) (G_in at) none;
+      odd_g = ap (λ xs. odd (total xs)) g ∙ g_odd s c.stored-f.result c.stored-g.result c.stored-cap_f.result c.stored-cap_g.result (f_in at) (g_in at) (F_in at) (G_in at) none;
+      unit_determinant = rw (f, g, F, G, size) (unit s c.stored-f.result c.stored-g.result c.stored-cap_f.result c.stored-cap_g.result (f_in at) (g_in at) (F_in at) (G_in at) none);
     }
 
 pub returns : goal.returns

@@ -1,25 +1,43 @@
-use Rattle.std.proofs.Common.{rules, get_or, ap, ◌∙◌, sym, arith}
-use Rattle.std.proofs.lemmas.Bool.Decides.{nat_tests}
-use Rattle.std.proofs.lemmas.List.{take_all}
+use Rattle.std.proofs.Common.{◌≡◌, ℕ, List, [], ◌++◌, length, sym, ap, ◌∙◌, arith, rules, append_assoc, append-nil}
 use Rattle.std.proofs.Output.{has_written_append, has_written_of_eq}
+use Rattle.std.proofs.lemmas.List.{nil_from_length}
+use Rattle.std.proofs.lemmas.Str.{IsUtf8-from_ascii}
+use Rattle.std.specs.Slice.Iter.{chunks_rest}
 use Rattle.script.specs.Hexadecimal.{hex_digits}
-use Rattle.script.proofs.Texts.{shown, digits_none, digits_more, text_none, text_some}
+use Rattle.script.proofs.Texts.{digits_none, digits-append, text_none, text_some}
 use Rattle.script.proofs.hex.HexDisplay.fmt.Goals as goal
 
 pub returns-then-is_empty-clause-writes : goal.returns-then-is_empty-clause-writes
 returns-then-is_empty-clause-writes g c = search (rules, text_none)
 
-pub loop-b-init : goal.loop-b-init
-loop-b-init g c = rw digits_none (search rules)
+pub unreachable-requires : goal.unreachable-requires
+unreachable-requires g c = c.in_default.ensures.cases.0 (IsUtf8-from_ascii _ c.write_digits.ensures.ascii)
 
-pub loop-b-preserved : goal.loop-b-preserved
-loop-b-preserved g c =
-    let bytes = c.args.self.now.0.now in
-    let i = c.loop-b.b-index in
-    λ plain. has_written_of_eq _ _ _ _ _ (digits_more bytes i c.loop-b-test.true (omega arith))
-    (has_written_append _ _ _ _ (shown (get_or bytes i 0)) _ (c.loop-b.invariant plain) (search rules))
+pub loop-group-init : goal.loop-group-init
+loop-group-init g c = (search rules, tt, search rules, λ plain. ([], search rules, search rules))
+
+pub loop-group-preserved : goal.loop-group-preserved
+loop-group-preserved g c =
+    let group = c.in-Some.group.now in
+    let steps = c.in-Some.ensures.steps in
+    let size = c.loop-group.invariant.2 in
+    let shown : c.in-Ok.text.now ≡ hex_digits group = c.in-Ok.ensures.cases.0 ∙ c.write_digits.ensures.text in (
+      search rules,
+      tt,
+      steps.0 ∙ size,
+      λ plain.
+          let so_far = c.loop-group.invariant.3 plain in (
+            so_far.0 ++ c.in-Ok.text.now,
+            has_written_append _ _ _ _ _ _ so_far.1 (search rules),
+            append_assoc so_far.0 _ _
+                ∙ ap (λ (t : List ℕ). so_far.0 ++ t)
+                (rw shown (sym (digits-append group (chunks_rest c.next.new.self)) ∙ ap hex_digits (sym steps.1.0)))
+                ∙ so_far.2,
+          ),
+    )
 
 pub returns-clause-writes : goal.returns-clause-writes
-returns-clause-writes g c =
-    let bytes = c.args.self.now.0.now in
-    λ plain ok. has_written_of_eq _ _ _ _ _ (ap hex_digits (take_all c.loop-b.b-index bytes c.loop-b-test.false) ∙ sym (text_some bytes (λ empty. grind (arith, nat_tests)))) (c.loop-b.invariant plain)
+returns-clause-writes g c = λ plain _.
+    let so_far = c.loop-group.invariant.3 plain in
+    let none = nil_from_length _ c.in-None.ensures.steps.1.0 in
+    has_written_of_eq _ _ _ _ _ (rw (none, digits_none, append-nil) at so_far.2 ∙ sym (text_some c.args.self.now.0.now (λ empty. search rules))) so_far.1

@@ -1,7 +1,13 @@
-use Rattle.std.proofs.Common.{take}
+use Rattle.std.proofs.Common.{◌≡◌, ℕ, List, ◌++◌, length}
 use Rattle.std.specs.Fmt.{HasWritten, IsPlainFormatter}
+use Rattle.std.specs.Slice.Iter.{chunks_rest, chunks_size}
 use Rattle.script.specs.Hexadecimal.{hex_digits}
 use Rattle.script.proofs.hex.HexDisplay.fmt.Given as goal
 
-abbrev pub invariant-loop-b : goal.invariant-loop-b
-invariant-loop-b g l = IsPlainFormatter l.fn.f → HasWritten g.W.Write.write_str_gives l.fn.f (hex_digits (take l.b-index l.b-items)) l.f
+abbrev pub invariant-loop-group : goal.invariant-loop-group
+invariant-loop-group g l =
+    (goal.iterator-loop-group g).can_next l.group-iterator
+    × (goal.iterator-loop-group g).is_finite l.group-iterator
+    × (chunks_size l.group-iterator ≡ 64)
+    × (IsPlainFormatter l.initial.f → (done : List ℕ) × HasWritten g.W.Write.write_str_gives l.initial.f done l.f
+    × (done ++ hex_digits (chunks_rest l.group-iterator) ≡ hex_digits l.fn.self.0.now))

@@ -1,7 +1,7 @@
 use Rattle.std.proofs.Common.{pos, ◌∙◌, arith, w32, w64, SFits}
 use Rattle.std.proofs.lemmas.Int.{to_z-of_z}
 use Rattle.signing.specs.Rows.{half_from}
-use Rattle.signing.proofs.Copies.{copied_more, copied_all}
+use Rattle.key.proofs.Copies.{copied_more, copied_all}
 use Rattle.signing.proofs.Halves.{length_half, half_at}
 use Rattle.signing.proofs.half.Half.write.Goals as goal
 
